@@ -1,0 +1,5 @@
+pub mod Refusals
+pub mod Form
+pub mod Bytes
+pub mod Card
+pub mod Label
