@@ -14,16 +14,16 @@ use Rattle.jobs.specs.Bytes.{u32-at, u32-bytes, fits-u32, to-signed, from-sign
 use Rattle.jobs.specs.Form.{Form}
 use Rattle.jobs.specs.declared.card.CardJob.{CardJob}
 use Rattle.jobs.specs.declared.card.CardJob.the-variants.{Award, Issue, Withdraw}
-use Rattle.jobs.specs.declared.refusal.JobFault.{JobFault}
-use Rattle.jobs.specs.declared.refusal.JobFault.the-variants.{Width, Action}
+use Rattle.jobs.specs.declared.fault.JobFault.{JobFault}
+use Rattle.jobs.specs.declared.fault.JobFault.the-variants.{WrongWidth, UnknownAction}
 
 -- action byte 1 awards, 2 issues and 3 withdraws; no other byte is an action
 abbrev acted : ℕ → ℕ → ℕ → Result CardJob JobFault
 acted action card number =
-    cond (eqb action 1) (Ok (Award card number)) (cond (eqb action 2) (Ok (Issue card number)) (cond (eqb action 3) (Ok (Withdraw card number)) (Err Action)))
+    cond (eqb action 1) (Ok (Award card number)) (cond (eqb action 2) (Ok (Issue card number)) (cond (eqb action 3) (Ok (Withdraw card number)) (Err UnknownAction)))
 
 abbrev decoded : List ℕ → Result CardJob JobFault
-decoded bytes = cond (eqb (length bytes) 9) (acted (getD bytes 0 0) (u32-at bytes 1) (u32-at bytes 5)) (Err Width)
+decoded bytes = cond (eqb (length bytes) 9) (acted (getD bytes 0 0) (u32-at bytes 1) (u32-at bytes 5)) (Err WrongWidth)
 
 abbrev encoded : CardJob → List ℕ
 encoded (Award card amount) = 1 ∷ (u32-bytes card ++ u32-bytes amount)
@@ -50,7 +50,7 @@ card-form = record { width = 9; decoded = decoded; encoded = encoded; fits = fit
 abbrev pub balance-form : Form ℤ
 balance-form = record {
   width = 4;
-  decoded = λ bytes. cond (eqb (length bytes) 4) (Ok (to-signed (u32-at bytes 0))) (Err Width);
+  decoded = λ bytes. cond (eqb (length bytes) 4) (Ok (to-signed (u32-at bytes 0))) (Err WrongWidth);
   encoded = λ z. u32-bytes (from-signed z);
   fits = fits-i32;
   text = signed;

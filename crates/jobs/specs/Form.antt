@@ -8,7 +8,7 @@ use lib.ListN.{length}
 use Rattle.std.specs.shelf.Lists.{All}
 use Rattle.std.specs.declared.result.Result.{Result}
 use Rattle.std.specs.declared.result.Result.the-variants.{Ok}
-use Rattle.jobs.specs.declared.refusal.JobFault.{JobFault}
+use Rattle.jobs.specs.declared.fault.JobFault.{JobFault}
 use Rattle.text.specs.Content.{Gains}
 use Rattle.text.specs.declared.text.Text.{Text}
 

@@ -11,14 +11,14 @@ use Rattle.std.specs.declared.result.Result.the-variants.{Ok, Err}
 use Rattle.jobs.specs.Bytes.{u16-at, u32-at, u16-bytes, u32-bytes, fits-u16, fits-u32}
 use Rattle.jobs.specs.Form.{Form}
 use Rattle.jobs.specs.declared.label.LabelJob.{LabelJob}
-use Rattle.jobs.specs.declared.refusal.JobFault.{JobFault}
-use Rattle.jobs.specs.declared.refusal.JobFault.the-variants.{Width}
+use Rattle.jobs.specs.declared.fault.JobFault.{JobFault}
+use Rattle.jobs.specs.declared.fault.JobFault.the-variants.{WrongWidth}
 
 abbrev labels : ℕ → ℕ → LabelJob
 labels first count = record { first = first; count = count }
 
 abbrev decoded : List ℕ → Result LabelJob JobFault
-decoded bytes = cond (eqb (length bytes) 6) (Ok (labels (u32-at bytes 0) (u16-at bytes 4))) (Err Width)
+decoded bytes = cond (eqb (length bytes) 6) (Ok (labels (u32-at bytes 0) (u16-at bytes 4))) (Err WrongWidth)
 
 abbrev pub label-form : Form LabelJob
 label-form = record {
@@ -32,7 +32,7 @@ label-form = record {
 abbrev pub printed-form : Form ℕ
 printed-form = record {
   width = 2;
-  decoded = λ bytes. cond (eqb (length bytes) 2) (Ok (u16-at bytes 0)) (Err Width);
+  decoded = λ bytes. cond (eqb (length bytes) 2) (Ok (u16-at bytes 0)) (Err WrongWidth);
   encoded = u16-bytes;
   fits = fits-u16;
   text = decimal;

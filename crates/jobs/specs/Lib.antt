@@ -1,4 +1,3 @@
-pub mod Refusals
 pub mod Form
 pub mod Bytes
 pub mod Card

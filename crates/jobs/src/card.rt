@@ -5,7 +5,7 @@ ghost use Rattle.jobs.specs.Card.{card-form, balance-form};
 ghost use Rattle.jobs.specs.Card.{card-text};
 ghost use Rattle.text.specs.Content.{Gains};
 use crate::job::Job;
-use crate::refusal::JobFault;
+use crate::fault::JobFault;
 use text::Text;
 
 #[derive(Clone, Copy, Debug, PartialEq, Eq)]
@@ -36,7 +36,7 @@ pub impl Job for CardJob as CardJobJob {
 
     fn decode(bytes: &[u8]) -> Result<CardJob, JobFault> {
         if bytes.len() != CardJob::JOB_BYTES {
-            return Err(JobFault::Width);
+            return Err(JobFault::WrongWidth);
         }
         let card = u32::from_be_bytes([bytes[1], bytes[2], bytes[3], bytes[4]]);
         let number = u32::from_be_bytes([bytes[5], bytes[6], bytes[7], bytes[8]]);
@@ -44,13 +44,13 @@ pub impl Job for CardJob as CardJobJob {
             1 => Ok(CardJob::Award { card, amount: number }),
             2 => Ok(CardJob::Issue { card, voucher: number }),
             3 => Ok(CardJob::Withdraw { card, voucher: number }),
-            _ => Err(JobFault::Action),
+            _ => Err(JobFault::UnknownAction),
         }
     }
 
     fn decode_outcome(bytes: &[u8]) -> Result<i32, JobFault> {
         if bytes.len() != CardJob::OUTCOME_BYTES {
-            return Err(JobFault::Width);
+            return Err(JobFault::WrongWidth);
         }
         Ok(i32::from_be_bytes([bytes[0], bytes[1], bytes[2], bytes[3]]))
     }

@@ -1,7 +1,7 @@
 // What every kind of job offers. Code above is generic over it and proved once for every kind.
 ghost use mathlib.Core.Path.{_≡_};
 ghost use Rattle.jobs.specs.Form.{Form, Prints, Reads-back};
-use crate::refusal::JobFault;
+use crate::fault::JobFault;
 use text::Text;
 
 pub trait Job: Copy {

@@ -1,7 +1,7 @@
 // Label jobs: print a run of labels. The outcome is how many were printed.
 ghost use Rattle.jobs.specs.Label.{label-form, printed-form};
 use crate::job::Job;
-use crate::refusal::JobFault;
+use crate::fault::JobFault;
 use text::Text;
 
 #[derive(Clone, Copy, Debug, PartialEq, Eq)]
@@ -30,7 +30,7 @@ pub impl Job for LabelJob as LabelJobJob {
 
     fn decode(bytes: &[u8]) -> Result<LabelJob, JobFault> {
         if bytes.len() != LabelJob::JOB_BYTES {
-            return Err(JobFault::Width);
+            return Err(JobFault::WrongWidth);
         }
         Ok(LabelJob {
             first: u32::from_be_bytes([bytes[0], bytes[1], bytes[2], bytes[3]]),
@@ -40,7 +40,7 @@ pub impl Job for LabelJob as LabelJobJob {
 
     fn decode_outcome(bytes: &[u8]) -> Result<u16, JobFault> {
         if bytes.len() != LabelJob::OUTCOME_BYTES {
-            return Err(JobFault::Width);
+            return Err(JobFault::WrongWidth);
         }
         Ok(u16::from_be_bytes([bytes[0], bytes[1]]))
     }

@@ -3,12 +3,11 @@
 mod card;
 mod job;
 mod label;
-mod refusal;
+mod fault;
 
 pub use job::Job;
 pub use card::CardJob;
 pub use card::CardJobJob;
 pub use label::LabelJob;
 pub use label::LabelJobJob;
-pub use refusal::JobFault;
-pub use refusal::Layer;
+pub use fault::JobFault;
