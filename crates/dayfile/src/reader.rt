@@ -8,6 +8,7 @@ ghost use Rattle.std.specs.Vec.{made};
 ghost use Rattle.std.specs.declared.option.Option.the-variants.{Some, None};
 ghost use Rattle.dayfile.specs.Format.{frame-fault, tag-of, tag-byte, value-length, record-length, value-bytes};
 ghost use Rattle.dayfile.specs.Format.{settings-of, settings-from, call-of, call-from, pushed, finished, next-from, placed};
+ghost use Rattle.dayfile.specs.Encoding.{Days-read-back};
 ghost use Rattle.dayfile.specs.Reading.{file, first, rest, gave, Moves, Finds};
 use crate::fault::FileFault;
 use crate::fault::FileRefusal;
@@ -70,6 +71,7 @@ impl<'a> Reader<'a> {
     pub fn next<J: Job>(&mut self) -> Result<Option<Call<J, J::Outcome>>, FileFault>
         ensures answer { λ r. ⌜ r ≡ placed (now (self .entry) .position) (next-from form outcome (first (now (self .entry))) (rest (now (self .entry)))) ⌝ }
         ensures moves { λ r. ⌜ Moves (now (self .entry)) (gave r) (now (self .exit)) ⌝ }
+        ensures reads_back { λ _. ⌜ Days-read-back form outcome ⌝ }
     {
         let rest = rest_of(self.bytes, self.position);
         if self.position > 0 && rest.is_empty() {
