@@ -19,7 +19,7 @@ impl Party {
             Party::Owner => out.push(b'O'),
             Party::Helper { number } => {
                 out.push(b'H');
-                out.push_number(number as u32);
+                out.push_number(number as u64);
             }
             Party::Memory => out.push(b'M'),
         }

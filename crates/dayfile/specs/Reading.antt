@@ -3,7 +3,7 @@ use Prim.Native.Nat.{ℕ, _+_, _≤_}
 use mathlib.Core.Path.{_≡_}
 use mathlib.Core.Bool.{Bool, true, false, cond}
 use mathlib.Core.List.{List}
-use lib.Dec.{eqb}
+use lib.Dec.{T, eqb}
 use lib.ListN.{drop, length}
 use Rattle.std.specs.declared.option.Option.{Option}
 use Rattle.std.specs.declared.option.Option.the-variants.{Some, None}
@@ -32,10 +32,11 @@ gave (Ok (Some x)) = true
 gave (Ok None) = false
 gave (Err fault) = false
 
--- the reader stands in the same file, past the record where that was given
+-- the reader stands in the same file, past the record where that was given and never past the file's end
 pub record Moves (s : Reader) (given : Bool) (t : Reader) : Type 0 where
   pub same : file t ≡ file s
   pub position : t .position ≡ cond given (s .position + record-length (rest s)) (s .position)
+  pub within : T given → t .position ≤ length (file s)
 
 -- r is the answer, and the length of its record
 abbrev pub Finds : {X : Type 0} → Result X FileRefusal → Result (Found X) FileRefusal → List ℕ → Type 0

@@ -73,7 +73,7 @@ fn print_card(out: &mut Text, word: &str, card: u32, number: u32)
     ensures short { λ _. ⌜ (length (now (word .entry)) ≤ 9 → length (card-text (now (word .entry)) card number) ≤ 30) ⌝ }
 {
     out.push_str(word);
-    out.push_number(card);
+    out.push_number(card as u64);
     out.push(b' ');
-    out.push_number(number);
+    out.push_number(number as u64);
 }

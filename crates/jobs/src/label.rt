@@ -47,12 +47,12 @@ pub impl Job for LabelJob as LabelJobJob {
 
     fn print(self, out: &mut Text) {
         out.push_str("labels ");
-        out.push_number(self.first);
+        out.push_number(self.first as u64);
         out.push(b' ');
-        out.push_number(self.count as u32);
+        out.push_number(self.count as u64);
     }
 
     fn print_outcome(result: u16, out: &mut Text) {
-        out.push_number(result as u32);
+        out.push_number(result as u64);
     }
 }

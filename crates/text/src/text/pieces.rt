@@ -42,7 +42,7 @@ impl Text {
     }
 
     // The number's decimal digits, with no leading zero.
-    pub fn push_number(&mut self, number: u32)
+    pub fn push_number(&mut self, number: u64)
         ensures gains { λ _. ⌜ Gains (now (self .entry)) (decimal number) (now (self .exit)) ⌝ }
     {
         if number >= 10 {
@@ -58,6 +58,6 @@ impl Text {
         if number < 0 {
             self.push(b'-');
         }
-        self.push_number(number.unsigned_abs());
+        self.push_number(number.unsigned_abs() as u64);
     }
 }
