@@ -1,5 +1,7 @@
 // The seven calls, over the types of a job and of its outcome.
+ghost use Prim.Native.Nat.{_≤_};
 ghost use mathlib.Core.Path.{_≡_};
+ghost use lib.ListN.{length};
 ghost use Rattle.calls.specs.Calls.{party-of, name-of};
 ghost use Rattle.text.specs.Content.{Gains};
 use crate::party::Party;
@@ -29,6 +31,7 @@ impl<J, O> Call<J, O> {
 
     pub fn print_name(&self, out: &mut Text)
         ensures gains { λ _. ⌜ Gains (now (out .entry)) (name-of (now (self .entry))) (now (out .exit)) ⌝ }
+        ensures short { λ _. ⌜ length (name-of (now (self .entry))) ≤ 6 ⌝ }
     {
         match self {
             Call::Push { .. } => out.push_str("push"),

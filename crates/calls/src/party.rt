@@ -1,4 +1,6 @@
 // Who makes a call.
+ghost use Prim.Native.Nat.{_≤_};
+ghost use lib.ListN.{length};
 ghost use Rattle.calls.specs.Calls.{party-text};
 ghost use Rattle.text.specs.Content.{Gains};
 use text::Text;
@@ -14,6 +16,7 @@ pub enum Party {
 impl Party {
     pub fn print(self, out: &mut Text)
         ensures gains { λ _. ⌜ Gains (now (out .entry)) (party-text self) (now (out .exit)) ⌝ }
+        ensures short { λ _. ⌜ length (party-text self) ≤ 4 ⌝ }
     {
         match self {
             Party::Owner => out.push(b'O'),

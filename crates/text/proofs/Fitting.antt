@@ -31,6 +31,10 @@ then {s} {t} {u} {first} {second} one two = record {
   text = two .text ∙ ap (λ held. fitting (held ++ second)) (one .text) ∙ take-again 80 (content s ++ first) second ∙ ap fitting (append-assoc (content s) first second);
 }
 
+-- a text that was empty holds just its piece, where that fits
+pub whole : {s t : Text} {piece : List ℕ} → content s ≡ [] → Gains s piece t → length piece ≤ 80 → content t ≡ piece
+whole {piece = piece} empty gains short = gains .text ∙ ap (λ held. fitting (held ++ piece)) empty ∙ take-all 80 piece short
+
 -- one byte more of a piece
 pub more : {s t u : Text} (piece : List ℕ) (i : ℕ) → i < length piece → Gains s (take i piece) t → Gains t (getD piece i 0 ∷ []) u → Gains s (take (i + 1) piece) u
 more piece i within so-far next = same-piece (sym (take-more piece i 0 within)) (then so-far next)

@@ -1,5 +1,5 @@
 use Rattle.text.proofs.Fitting.{one-fits, none-fits}
-use Rattle.text.proofs.text.Text.push.Needs as need
+use Rattle.text.proofs.text.Text.put.Needs as need
 
 pub returns-then-self-lt-CAPACITY : need.returns-then-self-lt-CAPACITY
 returns-then-self-lt-CAPACITY c = record {

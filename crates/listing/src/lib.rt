@@ -1,0 +1,4 @@
+// The listing of a day file: what its board is, what each record asks, and the counts, or where the file is refused.
+// No call of a board is made here.
+mod counts;
+mod lines;
