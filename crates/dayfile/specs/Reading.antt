@@ -15,16 +15,16 @@ use Rattle.dayfile.specs.declared.fault.FileRefusal.{FileRefusal}
 use Rattle.dayfile.specs.declared.reader.Found.{Found}
 use Rattle.dayfile.specs.declared.reader.Reader.{Reader}
 
-abbrev pub file : Reader → List ℕ
-file r = r .bytes .now
+abbrev pub file-of : Reader → List ℕ
+file-of r = r .bytes .now
 
 -- the record to be read is the file's first
-abbrev pub first : Reader → Bool
-first r = eqb (r .position) 0
+abbrev pub at-start : Reader → Bool
+at-start r = eqb (r .position) 0
 
 -- the file from the record on that is to be read
-abbrev pub rest : Reader → List ℕ
-rest r = drop (r .position) (file r)
+abbrev pub unread : Reader → List ℕ
+unread r = drop (r .position) (file-of r)
 
 -- a call gave a record, and not the end or a refusal
 abbrev pub gave : {X : Type 0} → Result (Option X) FileFault → Bool
@@ -34,9 +34,9 @@ gave (Err fault) = false
 
 -- the reader stands in the same file, past the record where that was given and never past the file's end
 pub record Moves (s : Reader) (given : Bool) (t : Reader) : Type 0 where
-  pub same : file t ≡ file s
-  pub position : t .position ≡ cond given (s .position + record-length (rest s)) (s .position)
-  pub within : T given → t .position ≤ length (file s)
+  pub same : file-of t ≡ file-of s
+  pub position : t .position ≡ cond given (s .position + record-length (unread s)) (s .position)
+  pub within : T given → t .position ≤ length (file-of s)
 
 -- r is the answer, and the length of its record
 abbrev pub Finds : {X : Type 0} → Result X FileRefusal → Result (Found X) FileRefusal → List ℕ → Type 0

@@ -2,6 +2,7 @@
 // the position where it was.
 ghost use mathlib.Core.Path.{_≡_};
 ghost use Prim.Native.Nat.{_+_, _^_, _≤_, _<_};
+ghost use mathlib.Core.Bool.{true};
 ghost use lib.ListN.{drop, length};
 ghost use Rattle.std.specs.Results.{Cases, isOk};
 ghost use Rattle.std.specs.Vec.{made};
@@ -9,7 +10,7 @@ ghost use Rattle.std.specs.declared.option.Option.the-variants.{Some, None};
 ghost use Rattle.dayfile.specs.Format.{frame-fault, tag-of, tag-byte, value-length, record-length, value-bytes};
 ghost use Rattle.dayfile.specs.Format.{settings-of, settings-from, call-of, call-from, pushed, finished, next-from, placed};
 ghost use Rattle.dayfile.specs.Encoding.{Days-read-back};
-ghost use Rattle.dayfile.specs.Reading.{file, first, rest, gave, Moves, Finds};
+ghost use Rattle.dayfile.specs.Reading.{file-of, at-start, unread, gave, Moves, Finds};
 use crate::fault::FileFault;
 use crate::fault::FileRefusal;
 use crate::fault::FileRefusalFromJobFault;
@@ -39,7 +40,7 @@ struct Raw<'a> {
 
 impl<'a> Reader<'a> {
     pub fn new(bytes: &'a [u8]) -> Reader<'a>
-        ensures file { λ r. ⌜ file r ≡ now (bytes .entry) ⌝ }
+        ensures file { λ r. ⌜ file-of r ≡ now (bytes .entry) ⌝ }
         ensures start { λ r. ⌜ r .position ≡ 0 ⌝ }
     {
         Reader { bytes, position: 0 }
@@ -54,13 +55,12 @@ impl<'a> Reader<'a> {
 
     // Reads the board's record, which stands first.
     pub fn board(&mut self) -> Result<Settings, FileFault>
-        ensures answer { λ r. ⌜ r ≡ placed (now (self .entry) .position) (settings-from (first (now (self .entry))) (rest (now (self .entry)))) ⌝ }
+        ensures answer { λ r. ⌜ r ≡ placed (now (self .entry) .position) (settings-from (at-start (now (self .entry))) (unread (now (self .entry)))) ⌝ }
         ensures moves { λ r. ⌜ Moves (now (self .entry)) (isOk r) (now (self .exit)) ⌝ }
     {
-        let rest = rest_of(self.bytes, self.position);
-        match settings_from(self.position == 0, rest) {
+        match settings_from(self.position == 0, rest_of(self.bytes, self.position)) {
             Ok(found) => {
-                self.position += found.length;
+                self.pass(found.length);
                 Ok(found.what)
             }
             Err(refusal) => Err(FileFault { refusal, place: self.position }),
@@ -69,9 +69,16 @@ impl<'a> Reader<'a> {
 
     // Reads a later record, which asks something of the board, or finds the file's end.
     pub fn next<J: Job>(&mut self) -> Result<Option<Call<J, J::Outcome>>, FileFault>
-        ensures answer { λ r. ⌜ r ≡ placed (now (self .entry) .position) (next-from form outcome (first (now (self .entry))) (rest (now (self .entry)))) ⌝ }
+        ensures answer { λ r. ⌜ r ≡ placed (now (self .entry) .position) (next-from form outcome (at-start (now (self .entry))) (unread (now (self .entry)))) ⌝ }
         ensures moves { λ r. ⌜ Moves (now (self .entry)) (gave r) (now (self .exit)) ⌝ }
         ensures reads_back { λ _. ⌜ Days-read-back form outcome ⌝ }
+    {
+        self.advance()
+    }
+
+    fn advance<J: Job>(&mut self) -> Result<Option<Call<J, J::Outcome>>, FileFault>
+        ensures answer { λ r. ⌜ r ≡ placed (now (self .entry) .position) (next-from form outcome (at-start (now (self .entry))) (unread (now (self .entry)))) ⌝ }
+        ensures moves { λ r. ⌜ Moves (now (self .entry)) (gave r) (now (self .exit)) ⌝ }
     {
         let rest = rest_of(self.bytes, self.position);
         if self.position > 0 && rest.is_empty() {
@@ -79,11 +86,21 @@ impl<'a> Reader<'a> {
         }
         match call_from(self.position == 0, rest) {
             Ok(found) => {
-                self.position += found.length;
+                self.pass(found.length);
                 Ok(Some(found.what))
             }
             Err(refusal) => Err(FileFault { refusal, place: self.position }),
         }
+    }
+
+    // Moves past a record that was read.
+    fn pass(&mut self, count: usize)
+        requires record { ⌜ count ≡ record-length (unread (now self)) ⌝ }
+        requires whole { ⌜ count ≤ length (unread (now self)) ⌝ }
+        requires fits { ⌜ now self .position + count < 2 ^ 64 ⌝ }
+        ensures moves { λ _. ⌜ Moves (now (self .entry)) true (now (self .exit)) ⌝ }
+    {
+        self.position += count;
     }
 }
 

@@ -7,11 +7,11 @@ use lib.Chars.{codes}
 use lib.Dec.{eqb}
 use lib.IntN.{ℤ}
 use lib.ListN.{length, getD}
-use Rattle.std.specs.Written.{decimal, signed}
+use Rattle.std.specs.Written.{signed}
 use Rattle.std.specs.declared.result.Result.{Result}
 use Rattle.std.specs.declared.result.Result.the-variants.{Ok, Err}
 use Rattle.jobs.specs.Bytes.{u32-at, u32-bytes, fits-u32, to-signed, from-signed, fits-i32}
-use Rattle.jobs.specs.Form.{Form}
+use Rattle.jobs.specs.Form.{Form, words}
 use Rattle.jobs.specs.declared.card.CardJob.{CardJob}
 use Rattle.jobs.specs.declared.card.CardJob.the-variants.{Award, Issue, Withdraw}
 use Rattle.jobs.specs.declared.fault.JobFault.{JobFault}
@@ -35,14 +35,10 @@ fits (Award card amount) = fits-u32 card && fits-u32 amount
 fits (Issue card voucher) = fits-u32 card && fits-u32 voucher
 fits (Withdraw card voucher) = fits-u32 card && fits-u32 voucher
 
--- a word, the card and a number
-abbrev pub card-text : List ℕ → ℕ → ℕ → List ℕ
-card-text word card number = word ++ (decimal card ++ (codes " " ++ decimal number))
-
 abbrev text : CardJob → List ℕ
-text (Award card amount) = card-text (codes "award ") card amount
-text (Issue card voucher) = card-text (codes "issue ") card voucher
-text (Withdraw card voucher) = card-text (codes "withdraw ") card voucher
+text (Award card amount) = words (codes "award ") card amount
+text (Issue card voucher) = words (codes "issue ") card voucher
+text (Withdraw card voucher) = words (codes "withdraw ") card voucher
 
 abbrev pub card-form : Form CardJob
 card-form = record { width = 9; decoded = decoded; encoded = encoded; fits = fits; text = text }

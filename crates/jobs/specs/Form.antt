@@ -2,9 +2,11 @@
 use Prim.Native.Nat.{ℕ, _≤_, _<_}
 use mathlib.Core.Path.{_≡_}
 use mathlib.Core.Bool.{Bool}
-use mathlib.Core.List.{List}
+use mathlib.Core.List.{List, _++_}
+use lib.Chars.{codes}
 use lib.Dec.{T}
 use lib.ListN.{length}
+use Rattle.std.specs.Written.{decimal}
 use Rattle.std.specs.shelf.Lists.{All}
 use Rattle.std.specs.declared.result.Result.{Result}
 use Rattle.std.specs.declared.result.Result.the-variants.{Ok}
@@ -23,6 +25,10 @@ pub record Form (X : Type 0) : Type 0 where
   pub fits : X → Bool
   -- how a value is printed
   pub text : X → List ℕ
+
+-- a word, a number, a blank and a number
+abbrev pub words : List ℕ → ℕ → ℕ → List ℕ
+words word first second = word ++ (decimal first ++ (codes " " ++ decimal second))
 
 -- the encoding of a value is bytes, as many as the width, and is decoded to that value
 pub record Reads-back {X : Type 0} (f : Form X) : Type 0 where

@@ -9,7 +9,7 @@ use Rattle.std.specs.Written.{decimal}
 use Rattle.std.specs.declared.result.Result.{Result}
 use Rattle.std.specs.declared.result.Result.the-variants.{Ok, Err}
 use Rattle.jobs.specs.Bytes.{u16-at, u32-at, u16-bytes, u32-bytes, fits-u16, fits-u32}
-use Rattle.jobs.specs.Form.{Form}
+use Rattle.jobs.specs.Form.{Form, words}
 use Rattle.jobs.specs.declared.label.LabelJob.{LabelJob}
 use Rattle.jobs.specs.declared.fault.JobFault.{JobFault}
 use Rattle.jobs.specs.declared.fault.JobFault.the-variants.{WrongWidth}
@@ -26,7 +26,7 @@ label-form = record {
   decoded = decoded;
   encoded = λ j. u32-bytes (j .first) ++ u16-bytes (j .count);
   fits = λ j. fits-u32 (j .first) && fits-u16 (j .count);
-  text = λ j. codes "labels " ++ (decimal (j .first) ++ (codes " " ++ decimal (j .count)));
+  text = λ j. words (codes "labels ") (j .first) (j .count);
 }
 
 abbrev pub printed-form : Form ℕ

@@ -1,11 +1,8 @@
 // Card jobs: award points to a card, or issue or withdraw a voucher. The outcome is the card's balance.
-ghost use Prim.Native.Nat.{_≤_};
-ghost use lib.ListN.{length};
 ghost use Rattle.jobs.specs.Card.{card-form, balance-form};
-ghost use Rattle.jobs.specs.Card.{card-text};
-ghost use Rattle.text.specs.Content.{Gains};
 use crate::job::Job;
 use crate::fault::JobFault;
+use crate::words::print_words;
 use text::Text;
 
 #[derive(Clone, Copy, Debug, PartialEq, Eq)]
@@ -57,23 +54,13 @@ pub impl Job for CardJob as CardJobJob {
 
     fn print(self, out: &mut Text) {
         match self {
-            CardJob::Award { card, amount } => print_card(out, "award ", card, amount),
-            CardJob::Issue { card, voucher } => print_card(out, "issue ", card, voucher),
-            CardJob::Withdraw { card, voucher } => print_card(out, "withdraw ", card, voucher),
+            CardJob::Award { card, amount } => print_words(out, "award ", card, amount),
+            CardJob::Issue { card, voucher } => print_words(out, "issue ", card, voucher),
+            CardJob::Withdraw { card, voucher } => print_words(out, "withdraw ", card, voucher),
         }
     }
 
     fn print_outcome(result: i32, out: &mut Text) {
         out.push_signed(result);
     }
-}
-
-fn print_card(out: &mut Text, word: &str, card: u32, number: u32)
-    ensures text { λ _. ⌜ Gains (now (out .entry)) (card-text (now (word .entry)) card number) (now (out .exit)) ⌝ }
-    ensures short { λ _. ⌜ (length (now (word .entry)) ≤ 9 → length (card-text (now (word .entry)) card number) ≤ 30) ⌝ }
-{
-    out.push_str(word);
-    out.push_number(card as u64);
-    out.push(b' ');
-    out.push_number(number as u64);
 }

@@ -2,6 +2,7 @@
 ghost use Rattle.jobs.specs.Label.{label-form, printed-form};
 use crate::job::Job;
 use crate::fault::JobFault;
+use crate::words::print_words;
 use text::Text;
 
 #[derive(Clone, Copy, Debug, PartialEq, Eq)]
@@ -46,10 +47,7 @@ pub impl Job for LabelJob as LabelJobJob {
     }
 
     fn print(self, out: &mut Text) {
-        out.push_str("labels ");
-        out.push_number(self.first as u64);
-        out.push(b' ');
-        out.push_number(self.count as u64);
+        print_words(out, "labels ", self.first, self.count as u32);
     }
 
     fn print_outcome(result: u16, out: &mut Text) {

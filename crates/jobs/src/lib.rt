@@ -4,6 +4,7 @@ mod card;
 mod job;
 mod label;
 mod fault;
+mod words;
 
 pub use job::Job;
 pub use card::CardJob;
