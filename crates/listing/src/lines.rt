@@ -105,6 +105,7 @@ pub fn closing_front_text(counts: &Counts) -> Text
 }
 
 pub fn closing_back_text(counts: &Counts) -> Text
+    requires { ⌜ total-of (now counts) < 65536 ⌝ }
     ensures text { λ r. ⌜ content r ≡ closing-back (now (counts .entry)) ⌝ }
 {
     let mut out = Text::new();

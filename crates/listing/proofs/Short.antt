@@ -1,0 +1,43 @@
+-- How long the lines of a listing are at most. Assumes nothing.
+use Prim.Native.Nat.{ℕ, _^_, _≤_, _<_}
+use native.Mathlib.Omega.{arith}
+use lib.ListN.{length, length-append}
+use Rattle.std.proofs.shelf.Decimals.{length-decimal-le}
+use Rattle.std.specs.Written.{decimal}
+use Rattle.dayfile.specs.Faults.{number-of}
+use Rattle.dayfile.specs.declared.fault.FileFault.{FileFault}
+use Rattle.dayfile.specs.declared.settings.JobKind.{JobKind}
+use Rattle.dayfile.specs.declared.settings.JobKind.the-variants.{Cards, Labels}
+use Rattle.dayfile.specs.declared.settings.MemoryKind.{MemoryKind}
+use Rattle.dayfile.specs.declared.settings.MemoryKind.the-variants.{Direct, Queued}
+use Rattle.dayfile.specs.declared.settings.Settings.{Settings}
+use Rattle.listing.specs.Counts.{total-of}
+use Rattle.listing.specs.Lines.{memory-word, job-word, board-line, refusal-line, closing-front, closing-back}
+use Rattle.listing.specs.declared.counts.Counts.{Counts}
+
+pub five : (n : ℕ) → n < 2 ^ 16 → length (decimal n) ≤ 5
+five n fits = length-decimal-le 5 n (omega arith) (omega arith) (omega arith)
+
+memory-short : (m : MemoryKind) → length (memory-word m) ≤ 6
+memory-short Direct = omega arith
+memory-short Queued = omega arith
+
+job-short : (j : JobKind) → length (job-word j) ≤ 6
+job-short Cards = omega arith
+job-short Labels = omega arith
+
+pub board-short : (s : Settings) → s .size < 2 ^ 16 → s .helpers < 2 ^ 16 → length (board-line s) ≤ 80
+board-short s size helpers =
+    simp length-append (omega (arith, five (s .size) size, five (s .helpers) helpers, memory-short (s .memory), job-short (s .jobs)))
+
+pub refusal-short : (f : FileFault) → length (decimal (number-of (f .refusal))) ≤ 20 → length (decimal (f .place)) ≤ 20 → length (refusal-line f) ≤ 80
+refusal-short f number place = simp length-append (omega arith)
+
+module _ (n : Counts) (few : total-of n < 2 ^ 16) where
+  pub front-short : length (closing-front n) ≤ 80
+  front-short =
+      simp length-append (omega (arith, five (total-of n) few, five (n .push) (omega arith), five (n .pop) (omega arith), five (n .retire) (omega arith)))
+
+  pub back-short : length (closing-back n) ≤ 80
+  back-short =
+      simp length-append (omega (arith, five (n .«owner_step») (omega arith), five (n .«helper_step») (omega arith), five (n .finish) (omega arith), five (n .land) (omega arith)))
