@@ -1,2 +1,4 @@
 pub mod Short
 pub mod Argument
+pub mod Output
+pub mod Whole
