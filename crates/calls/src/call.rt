@@ -24,7 +24,9 @@ impl<J, O> Call<J, O> {
     {
         match self {
             Call::Push { .. } | Call::Pop | Call::Retire | Call::OwnerStep => Party::Owner,
-            Call::HelperStep { helper } | Call::Finish { helper, .. } => Party::Helper { number: *helper },
+            Call::HelperStep { helper } | Call::Finish { helper, .. } => Party::Helper {
+                number: *helper,
+            },
             Call::Land => Party::Memory,
         }
     }

@@ -1,3 +1,3 @@
-pub mod Finish
 pub mod Moving
 pub mod Encoding
+pub mod Holding

@@ -1,8 +1,7 @@
 // Day files: a reader that gives one record per call, or what is wrong with the file and where.
 // It borrows the bytes, allocates nothing and asks nothing of them beforehand.
-mod tag;
-
 mod reader;
+mod tag;
 
 pub use reader::Reader;
 

@@ -3,7 +3,7 @@
 ghost use mathlib.Core.Path.{_≡_};
 ghost use Prim.Native.Nat.{_+_, _^_, _≤_, _<_};
 ghost use mathlib.Core.Bool.{true};
-ghost use lib.ListN.{drop, length};
+ghost use lib.ListN.{drop, getD, length};
 ghost use Rattle.std.specs.Results.{Cases, isOk};
 ghost use Rattle.std.specs.Vec.{made};
 ghost use Rattle.std.specs.declared.option.Option.the-variants.{Some, None};
@@ -46,13 +46,6 @@ impl<'a> Reader<'a> {
         Reader { bytes, position: 0 }
     }
 
-    // The byte at which the next record begins.
-    pub fn position(&self) -> usize
-        ensures position { λ r. ⌜ r ≡ now (self .entry) .position ⌝ }
-    {
-        self.position
-    }
-
     // Reads the board's record, which stands first.
     pub fn board(&mut self) -> Result<Settings, FileFault>
         ensures answer { λ r. ⌜ r ≡ placed (now (self .entry) .position) (settings-from (at-start (now (self .entry))) (unread (now (self .entry)))) ⌝ }
@@ -63,7 +56,7 @@ impl<'a> Reader<'a> {
                 self.pass(found.length);
                 Ok(found.what)
             }
-            Err(refusal) => Err(FileFault { refusal, place: self.position }),
+            Err(refusal) => Err(self.fault(refusal)),
         }
     }
 
@@ -89,7 +82,17 @@ impl<'a> Reader<'a> {
                 self.pass(found.length);
                 Ok(Some(found.what))
             }
-            Err(refusal) => Err(FileFault { refusal, place: self.position }),
+            Err(refusal) => Err(self.fault(refusal)),
+        }
+    }
+
+    // The refusal of the record at the position.
+    fn fault(&self, refusal: FileRefusal) -> FileFault
+        ensures place { λ r. ⌜ r ≡ record { refusal = refusal; place = now (self .entry) .position } ⌝ }
+    {
+        FileFault {
+            refusal,
+            place: self.position,
         }
     }
 
@@ -143,7 +146,10 @@ fn frame(first: bool, rest: &[u8]) -> Result<Raw<'_>, FileRefusal>
     let value = &rest[3..3 + length];
     match tag_of(rest[0])? {
         Tag::Board if !first => Err(FileRefusal::OutOfOrder),
-        Tag::Board => Ok(Raw { tag: Tag::Board, value }),
+        Tag::Board => Ok(Raw {
+            tag: Tag::Board,
+            value,
+        }),
         _ if first => Err(FileRefusal::OutOfOrder),
         tag => Ok(Raw { tag, value }),
     }
@@ -157,7 +163,10 @@ fn settings_from(first: bool, rest: &[u8]) -> Result<Found<Settings>, FileRefusa
         return Err(FileRefusal::OutOfOrder);
     };
     let what = settings_of(raw.value)?;
-    Ok(Found { what, length: 3 + raw.value.len() })
+    Ok(Found {
+        what,
+        length: 3 + raw.value.len(),
+    })
 }
 
 fn call_from<J: Job>(first: bool, rest: &[u8]) -> Result<Found<Call<J, J::Outcome>>, FileRefusal>
@@ -165,7 +174,10 @@ fn call_from<J: Job>(first: bool, rest: &[u8]) -> Result<Found<Call<J, J::Outcom
 {
     let raw = frame(first, rest)?;
     let what = call_of(raw.tag, raw.value)?;
-    Ok(Found { what, length: 3 + raw.value.len() })
+    Ok(Found {
+        what,
+        length: 3 + raw.value.len(),
+    })
 }
 
 fn settings_of(value: &[u8]) -> Result<Settings, FileRefusal>
@@ -181,8 +193,16 @@ fn settings_of(value: &[u8]) -> Result<Settings, FileRefusal>
         (size, helpers, memory, jobs) => Ok(Settings {
             size,
             helpers,
-            memory: if memory == 0 { MemoryKind::Direct } else { MemoryKind::Queued },
-            jobs: if jobs == 0 { JobKind::Cards } else { JobKind::Labels },
+            memory: if memory == 0 {
+                MemoryKind::Direct
+            } else {
+                MemoryKind::Queued
+            },
+            jobs: if jobs == 0 {
+                JobKind::Cards
+            } else {
+                JobKind::Labels
+            },
         }),
     }
 }
@@ -197,7 +217,7 @@ fn call_of<J: Job>(tag: Tag, value: &[u8]) -> Result<Call<J, J::Outcome>, FileRe
         (Tag::Retire, 0) => Ok(Call::Retire),
         (Tag::OwnerStep, 0) => Ok(Call::OwnerStep),
         (Tag::HelperStep, 1) => Ok(Call::HelperStep { helper: value[0] }),
-        (Tag::Finish, length) if length > 0 && length - 1 == J::outcome_width() => finish_of(value[0], &value[1..]),
+        (Tag::Finish, length) if length > 0 && length - 1 == J::outcome_width() => finish_of(value),
         (Tag::Land, 0) => Ok(Call::Land),
         _ => Err(FileRefusal::WrongLength),
     }
@@ -210,9 +230,14 @@ fn push_of<J: Job>(value: &[u8]) -> Result<Call<J, J::Outcome>, FileRefusal>
     Ok(Call::Push { job })
 }
 
-fn finish_of<J: Job>(helper: u8, value: &[u8]) -> Result<Call<J, J::Outcome>, FileRefusal>
-    ensures finish { λ r. ⌜ r ≡ finished form outcome helper (outcome .decoded (now (value .entry))) ⌝ }
+fn finish_of<J: Job>(value: &[u8]) -> Result<Call<J, J::Outcome>, FileRefusal>
+    requires { ⌜ 0 < length (now value) ⌝ }
+    ensures finish { λ r. ⌜ r ≡ finished form outcome (getD (now (value .entry)) 0 0) (outcome .decoded (drop 1 (now (value .entry)))) ⌝ }
 {
-    let outcome = J::decode_outcome(value)?;
-    Ok(Call::Finish { helper, outcome })
+    let (_, rest) = value.split_at(1);
+    let outcome = J::decode_outcome(rest)?;
+    Ok(Call::Finish {
+        helper: value[0],
+        outcome,
+    })
 }

@@ -6,7 +6,7 @@ ghost use Rattle.dayfile.specs.declared.fault.FileRefusal.the-variants.{Unknow
 use crate::fault::FileRefusal;
 
 #[derive(Clone, Copy)]
-pub enum Tag {
+pub(crate) enum Tag {
     Board,
     Push,
     Pop,
@@ -17,7 +17,7 @@ pub enum Tag {
     Land,
 }
 
-pub fn tag_of(byte: u8) -> Result<Tag, FileRefusal>
+pub(crate) fn tag_of(byte: u8) -> Result<Tag, FileRefusal>
     ensures tag { λ r. ⌜ r ≡ refuse-if (outside 1 8 byte) UnknownTag (Ok (tag-of byte)) ⌝ }
 {
     match byte {

@@ -1,7 +1,7 @@
 // Card jobs: award points to a card, or issue or withdraw a voucher. The outcome is the card's balance.
 ghost use Rattle.jobs.specs.Card.{card-form, balance-form};
-use crate::job::Job;
 use crate::fault::JobFault;
+use crate::job::Job;
 use crate::words::print_words;
 use text::Text;
 
@@ -17,6 +17,7 @@ pub impl Job for CardJob as CardJobJob {
     type Outcome = i32;
 
     const JOB_BYTES: usize = 9;
+
     const OUTCOME_BYTES: usize = 4;
 
     ghost form = { card-form };
@@ -38,9 +39,18 @@ pub impl Job for CardJob as CardJobJob {
         let card = u32::from_be_bytes([bytes[1], bytes[2], bytes[3], bytes[4]]);
         let number = u32::from_be_bytes([bytes[5], bytes[6], bytes[7], bytes[8]]);
         match bytes[0] {
-            1 => Ok(CardJob::Award { card, amount: number }),
-            2 => Ok(CardJob::Issue { card, voucher: number }),
-            3 => Ok(CardJob::Withdraw { card, voucher: number }),
+            1 => Ok(CardJob::Award {
+                card,
+                amount: number,
+            }),
+            2 => Ok(CardJob::Issue {
+                card,
+                voucher: number,
+            }),
+            3 => Ok(CardJob::Withdraw {
+                card,
+                voucher: number,
+            }),
             _ => Err(JobFault::UnknownAction),
         }
     }

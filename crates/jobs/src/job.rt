@@ -10,6 +10,7 @@ pub trait Job: Copy {
 
     // How many bytes a job and an outcome have in a day file.
     const JOB_BYTES: usize;
+
     const OUTCOME_BYTES: usize;
 
     // How jobs and outcomes stand in a day file and in a printed line.

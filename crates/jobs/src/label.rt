@@ -1,7 +1,7 @@
 // Label jobs: print a run of labels. The outcome is how many were printed.
 ghost use Rattle.jobs.specs.Label.{label-form, printed-form};
-use crate::job::Job;
 use crate::fault::JobFault;
+use crate::job::Job;
 use crate::words::print_words;
 use text::Text;
 
@@ -15,6 +15,7 @@ pub impl Job for LabelJob as LabelJobJob {
     type Outcome = u16;
 
     const JOB_BYTES: usize = 6;
+
     const OUTCOME_BYTES: usize = 2;
 
     ghost form = { label-form };

@@ -5,7 +5,7 @@ ghost use Rattle.jobs.specs.Form.{words};
 ghost use Rattle.text.specs.Content.{Gains};
 use text::Text;
 
-pub fn print_words(out: &mut Text, word: &str, first: u32, second: u32)
+pub(crate) fn print_words(out: &mut Text, word: &str, first: u32, second: u32)
     requires { ⌜ length (now word) ≤ 9 ⌝ }
     ensures gains { λ _. ⌜ Gains (now (out .entry)) (words (now (word .entry)) first second) (now (out .exit)) ⌝ }
     ensures short { λ _. ⌜ length (words (now (word .entry)) first second) ≤ 30 ⌝ }

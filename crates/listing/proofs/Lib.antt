@@ -2,3 +2,4 @@ pub mod Short
 pub mod Argument
 pub mod Output
 pub mod Whole
+pub mod Written

@@ -1,13 +1,17 @@
 -- The whole listing of a day file, by what the file holds. Assumes nothing.
-use Prim.Native.Nat.{ℕ}
+use Prim.Native.Nat.{ℕ, _≤_}
+use mathlib.Core.Path.{_≡_}
 use mathlib.Core.Bool.{true}
 use mathlib.Core.List.{List, [], _∷_, _++_}
+use lib.Dec.{T}
 use lib.ListN.{length, drop}
+use Rattle.std.specs.shelf.Lists.{All}
 use Rattle.std.specs.declared.option.Option.{Option}
 use Rattle.std.specs.declared.option.Option.the-variants.{Some, None}
 use Rattle.std.specs.declared.result.Result.{Result}
 use Rattle.std.specs.declared.result.Result.the-variants.{Ok, Err}
 use Rattle.calls.specs.declared.call.Call.{Call}
+use Rattle.dayfile.specs.Encoding.{settings-fit, call-fits, day-bytes}
 use Rattle.dayfile.specs.Format.{record-length, settings-from}
 use Rattle.dayfile.specs.Holding.{Held, held}
 use Rattle.dayfile.specs.declared.fault.FileFault.{FileFault}
@@ -47,3 +51,8 @@ listed-under (Err refusal) file = line (refusal-line (record { refusal = refusal
 
 abbrev pub listing : List ℕ → List ℕ
 listing file = listed-under (settings-from true file) file
+
+-- a day of this kind of job that was written as a file is listed as that day: its board, a line for each call, the counts
+abbrev pub Written-day-listed : {J O : Type 0} → JobKind → Form J → Form O → Type 0
+Written-day-listed {J} {O} kind job outcome =
+    (s : Settings) (calls : List (Call J O)) → s .jobs ≡ kind → T (settings-fit s) → All (λ c. T (call-fits job outcome c)) calls → length (day-bytes job outcome s calls) ≤ 61440 → listing (day-bytes job outcome s calls) ≡ line (board-line s) ++ lines-from job outcome nothing-yet calls None

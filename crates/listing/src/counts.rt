@@ -5,18 +5,18 @@ ghost use Rattle.listing.specs.Counts.{total-of, tally, nothing-yet};
 use calls::Call;
 
 #[derive(Clone, Copy)]
-pub struct Counts {
-    pub push: u16,
-    pub pop: u16,
-    pub retire: u16,
-    pub owner_step: u16,
-    pub helper_step: u16,
-    pub finish: u16,
-    pub land: u16,
+pub(crate) struct Counts {
+    pub(crate) push: u16,
+    pub(crate) pop: u16,
+    pub(crate) retire: u16,
+    pub(crate) owner_step: u16,
+    pub(crate) helper_step: u16,
+    pub(crate) finish: u16,
+    pub(crate) land: u16,
 }
 
 impl Counts {
-    pub fn new() -> Counts
+    pub(crate) fn new() -> Counts
         ensures none { λ r. ⌜ r ≡ nothing-yet ⌝ }
     {
         Counts {
@@ -31,14 +31,20 @@ impl Counts {
     }
 
     // A day file has far fewer records than the counts can hold.
-    pub fn total(&self) -> u16
+    pub(crate) fn total(&self) -> u16
         requires { ⌜ total-of (now self) < 65536 ⌝ }
         ensures total { λ r. ⌜ r ≡ total-of (now (self .entry)) ⌝ }
     {
-        self.push + self.pop + self.retire + self.owner_step + self.helper_step + self.finish + self.land
+        self.push
+            + self.pop
+            + self.retire
+            + self.owner_step
+            + self.helper_step
+            + self.finish
+            + self.land
     }
 
-    pub fn add<J, O>(&mut self, call: &Call<J, O>)
+    pub(crate) fn add<J, O>(&mut self, call: &Call<J, O>)
         requires { ⌜ total-of (now self) < 65535 ⌝ }
         ensures tally { λ _. ⌜ now (self .exit) ≡ tally (now (call .entry)) (now (self .entry)) ⌝ }
     {

@@ -10,7 +10,10 @@ ghost use Rattle.dayfile.specs.Reading.{file-of, unread};
 ghost use Rattle.text.specs.Content.{content};
 ghost use Rattle.listing.specs.Counts.{nothing-yet, total-of};
 ghost use Rattle.listing.specs.Lines.{line, closing-front, closing-back};
-ghost use Rattle.listing.specs.Listing.{lines-of, listing};
+ghost use Rattle.listing.specs.Listing.{lines-of, listing, Written-day-listed};
+ghost use Rattle.dayfile.specs.declared.settings.JobKind.the-variants.{Cards, Labels};
+ghost use Rattle.jobs.specs.Card.{card-form, balance-form};
+ghost use Rattle.jobs.specs.Label.{label-form, printed-form};
 use crate::counts::Counts;
 use crate::lines::board_text;
 use crate::lines::call_text;
@@ -88,11 +91,19 @@ fn list_into(bytes: &[u8], out: &mut Vec<u8>) -> Result<(), AllocError>
     Ok(())
 }
 
-// The listing of a day file, or want of memory.
-pub fn list_day(heap: Global, bytes: &[u8]) -> Result<Vec<u8>, AllocError>
+fn list_new(heap: Global, bytes: &[u8]) -> Result<Vec<u8>, AllocError>
     ensures listing { λ r. ⌜ made r (λ out. vec-items out ≡ listing (now (bytes .entry))) ⌝ }
 {
     let mut out = Vec::new(heap);
     list_into(bytes, &mut out)?;
     Ok(out)
+}
+
+// The listing of a day file, or want of memory.
+pub fn list_day(heap: Global, bytes: &[u8]) -> Result<Vec<u8>, AllocError>
+    ensures listing { λ r. ⌜ made r (λ out. vec-items out ≡ listing (now (bytes .entry))) ⌝ }
+    ensures card_days { λ _. ⌜ Written-day-listed Cards card-form balance-form ⌝ }
+    ensures label_days { λ _. ⌜ Written-day-listed Labels label-form printed-form ⌝ }
+{
+    list_new(heap, bytes)
 }

@@ -32,7 +32,7 @@ fn job_word(jobs: JobKind) -> &'static str
     }
 }
 
-pub fn board_text(settings: Settings) -> Text
+pub(crate) fn board_text(settings: Settings) -> Text
     ensures text { λ r. ⌜ content r ≡ board-line settings ⌝ }
 {
     let mut out = Text::new();
@@ -64,7 +64,7 @@ fn print_argument<J: Job>(call: &Call<J, J::Outcome>, out: &mut Text)
     }
 }
 
-pub fn call_text<J: Job>(number: u16, call: &Call<J, J::Outcome>) -> Text
+pub(crate) fn call_text<J: Job>(number: u16, call: &Call<J, J::Outcome>) -> Text
     ensures text { λ r. ⌜ content r ≡ call-line form outcome number (now (call .entry)) ⌝ }
 {
     let mut out = Text::new();
@@ -77,7 +77,7 @@ pub fn call_text<J: Job>(number: u16, call: &Call<J, J::Outcome>) -> Text
     out
 }
 
-pub fn refusal_text(fault: FileFault) -> Text
+pub(crate) fn refusal_text(fault: FileFault) -> Text
     ensures text { λ r. ⌜ content r ≡ refusal-line fault ⌝ }
 {
     let mut out = Text::new();
@@ -89,7 +89,7 @@ pub fn refusal_text(fault: FileFault) -> Text
 }
 
 // The closing line is longer than a text has room for, so it has two.
-pub fn closing_front_text(counts: &Counts) -> Text
+pub(crate) fn closing_front_text(counts: &Counts) -> Text
     requires { ⌜ total-of (now counts) < 65536 ⌝ }
     ensures text { λ r. ⌜ content r ≡ closing-front (now (counts .entry)) ⌝ }
 {
@@ -104,7 +104,7 @@ pub fn closing_front_text(counts: &Counts) -> Text
     out
 }
 
-pub fn closing_back_text(counts: &Counts) -> Text
+pub(crate) fn closing_back_text(counts: &Counts) -> Text
     requires { ⌜ total-of (now counts) < 65536 ⌝ }
     ensures text { λ r. ⌜ content r ≡ closing-back (now (counts .entry)) ⌝ }
 {

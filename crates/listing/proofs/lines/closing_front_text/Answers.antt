@@ -8,5 +8,5 @@ pub returns : need.returns
 returns c =
     let total = same-piece (ap decimal (c .total .ensures .total)) (c .push-number .ensures .gains) in
     let gains =
-      then total (then (c .push-str .ensures .gains) (then (c .push-number-2 .ensures .gains) (then (c .push-str-2 .ensures .gains) (then (c .push-number-3 .ensures .gains) (then (c .push-str-3 .ensures .gains) (c .push-number-4 .ensures .gains)))))) in
+    then total (then (c .push-str .ensures .gains) (then (c .push-number-2 .ensures .gains) (then (c .push-str-2 .ensures .gains) (then (c .push-number-3 .ensures .gains) (then (c .push-str-3 .ensures .gains) (c .push-number-4 .ensures .gains)))))) in
     record { text = whole (c .new-out .ensures .empty) gains (front-short (c .args .counts .now) (c .pre)) }

@@ -9,8 +9,8 @@ returns t c =
     let last = c .put .ensures .gains in
     record {
       gains = elim (c .if-number-ge10 .came) [
-        then-number-ge10 w ↦ decimal-then (c .args .number) (omega arith) (omega arith) (w .put-digits .ensures .gains) (same-start (w .self-is) last)
-      | else-number-ge10 w ↦ decimal-one (c .args .number) (omega arith) (same-start (w .self-is) last)
+        | then-number-ge10 w ↦ decimal-then (c .args .number) (omega arith) (omega arith) (w .put-digits .ensures .gains) (same-start (w .self-is) last)
+        | else-number-ge10 w ↦ decimal-one (c .args .number) (omega arith) (same-start (w .self-is) last)
       ];
       short = length-decimal-le 20 (c .args .number) (omega arith) (omega arith) (omega arith);
     }

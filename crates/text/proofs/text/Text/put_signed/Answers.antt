@@ -19,8 +19,8 @@ returns c =
     let digits = same-piece (ap decimal (c .unsigned-abs .ensures .value ∙ ap natAbs same)) (c .put-digits .ensures .gains) in
     record {
       gains = elim (c .if-number-lt0 .came) [
-        then-number-lt0 w ↦ minus-then z (sign ∙ w .if-number-lt0 .taken) (w .put .ensures .gains) (same-start (w .self-is) digits)
-      | else-number-lt0 w ↦ no-minus z (sign ∙ w .if-number-lt0 .left) (same-start (w .self-is) digits)
+        | then-number-lt0 w ↦ minus-then z (sign ∙ w .if-number-lt0 .taken) (w .put .ensures .gains) (same-start (w .self-is) digits)
+        | else-number-lt0 w ↦ no-minus z (sign ∙ w .if-number-lt0 .left) (same-start (w .self-is) digits)
       ];
       short = length-signed-le 19 z (omega (arith, c .fits .number .sfits)) (omega (arith, c .fits .number .sfits));
     }
