@@ -1,0 +1,15 @@
+pub mod Edges
+pub mod Keeping
+pub mod Modes
+pub mod Safe
+pub mod OwnerStays
+pub mod Bounded
+pub mod Events
+pub mod HelperStays
+pub mod Stays
+pub mod Sums
+pub mod Ordering
+pub mod Entries
+pub mod Cells
+pub mod Simulated
+pub mod Runs

@@ -1,0 +1,12 @@
+pub mod Places
+pub mod State
+pub mod Owning
+pub mod Helping
+pub mod Calls
+pub mod Plain
+pub mod Edges
+pub mod Keeping
+pub mod Naming
+pub mod Histories
+pub mod Orders
+pub mod Law
