@@ -16,7 +16,8 @@ use Rattle.memory.specs.Meaning as memory
 use Rattle.memory.specs.declared.words.Words.{Words}
 use Rattle.memory.specs.declared.words.Write.{Write}
 use Rattle.memory.specs.declared.words.Write.the-variants as write
-use Rattle.model.proofs.Keeping.{by-test}
+use Rattle.model.proofs.Entries.{length-changed, none-there, numbered}
+use Rattle.model.proofs.Ways.{by-test}
 use Rattle.model.specs.Calls.{with-cells, effect-of, Entry}
 use Rattle.model.specs.Helping.{swap-at, step-aimed, step-of, helper-step, finish-aimed, finish-of, finish}
 use Rattle.model.specs.Histories.{New, Runs, is-taken, is-changed, writes-share, taken-count, changed-count, written-count, Changed-is-bounded}
@@ -93,9 +94,6 @@ failing-at-most-all tail split (h ∷ hs) = omega (arith, fails-once tail split 
 fresh : (tail split : ℕ) → ltb tail split ≡ true → fails tail split (Swap (tail, split)) ≡ 0
 fresh tail split some = rw (some, eq-eqb tail tail refl, eq-eqb split split refl)
 
-none-there : {X P : Type 0} (x : X) → None ≡ Some x → P
-none-there x is = absurd (let z : _≡_ {A = ℕ} 0 1 = cc in omega arith)
-
 -- one helper's new aim counts in place of its old one
 failing-changed : (tail split : ℕ) (hs : List Helper) (i : ℕ) (h x : Helper) → at hs i ≡ Some h → failing tail split (changed hs i (λ _. x)) + fails tail split (h .aim) ≡ failing tail split hs + fails tail split (x .aim)
 failing-changed tail split [] i h x is = none-there h is
@@ -110,15 +108,6 @@ spared : (tail split : ℕ) (hs : List Helper) (i : ℕ) (h x : Helper) → at h
 spared tail split [] i h x is fine = none-there h is
 spared tail split (y ∷ ys) zero h x is fine = omega (arith, failing-at-most-all tail split ys)
 spared tail split (y ∷ ys) (suc i) h x is fine = omega (arith, fails-once tail split (y .aim), spared tail split ys i h x is fine)
-
-length-changed : {X : Type 0} (xs : List X) (i : ℕ) (f : X → X) → length (changed xs i f) ≡ length xs
-length-changed [] i f = refl
-length-changed (x ∷ xs) zero f = refl
-length-changed (x ∷ xs) (suc i) f = ap suc (length-changed xs i f)
-
-numbered : {X : Type 0} (xs : List X) (n : ℕ) (x : X) → at-number xs n ≡ Some x → at xs (n - 1) ≡ Some x
-numbered xs zero x is = none-there x is
-numbered xs (suc i) x is = let same : suc i - 1 ≡ i = omega arith in ap (at xs) same ∙ is
 
 none-fails-at-first : (n : ℕ) → failing 0 0 (replicate n (record { aim = ReadFlag })) ≡ 0
 none-fails-at-first zero = refl

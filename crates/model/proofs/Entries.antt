@@ -162,3 +162,8 @@ module _ {J O : Type 0} where
       let both = held-by-is k (x .job) (x .taker) (x .outcome) is in
       absurd (let z = only 0 (record { cell = x; there = refl; taker = both .0; unfinished = both .1 }) in omega arith))
       (λ is. rw (is, rest))
+
+pub length-changed : {X : Type 0} (xs : List X) (i : ℕ) (f : X → X) → length (changed xs i f) ≡ length xs
+length-changed [] i f = refl
+length-changed (x ∷ xs) zero f = refl
+length-changed (x ∷ xs) (suc i) f = ap suc (length-changed xs i f)

@@ -32,10 +32,11 @@ use Rattle.model.specs.declared.reply.Answer.{Answer}
 use Rattle.model.specs.declared.reply.Answer.the-variants.{Going, Taken, AllGone, NoShare, Changed, Finished}
 use Rattle.model.specs.declared.reply.Refusal.{Refusal}
 use Rattle.model.specs.declared.reply.Refusal.the-variants.{UnknownHelper, Holding, HoldsNone, Misread}
-use Rattle.model.proofs.Keeping.{by-test, never}
+use Rattle.model.proofs.Entries.{length-changed}
+use Rattle.model.proofs.Ways.{by-test}
 use Rattle.model.proofs.Modes.{Quiet, Mode, with-words, Stolen-one, settled-split-same, quiet-no-swap, mode-swap, quiet-split, mode-split}
-use Rattle.model.proofs.OwnerStays.{Goes, length-changed}
-use Rattle.model.proofs.Safe.{Need, quiet, shared, idle-need, need, Memory-fits, idle-numbers, Numbers, Aim-fits, Safe, taken-more, fits-same}
+use Rattle.model.proofs.OwnerStays.{Goes, refused-goes}
+use Rattle.model.proofs.Safe.{Need, quiet, shared, idle-need, need, Memory-fits, idle-numbers, Numbers, Aim-fits, Safe, taken-more, fits-same, bound, need-bound}
 
 aims-changed : (size i : ℕ) (hs : List Helper) (a : Aim) → Aim-fits size a → All (λ h. Aim-fits size (h .aim)) hs → All (λ h. Aim-fits size (h .aim)) (changed hs i (λ _. record { aim = a }))
 aims-changed size i [] a fits all = tt
@@ -88,32 +89,9 @@ swap-fits size R t s m (shared B S) fits passes =
     record { position = one .position; room = one .shared; fits = (one .mode, settled-split-same m (memory.swapped t s w) is ∙ fits .1) }
 
 -- no split above the board's size is seen
-abbrev Bound-fits : ℕ → Need → Type 0
-Bound-fits size quiet = Unit {0}
-Bound-fits size (shared B S) = B ≤ size
-
-seen-split : (size R : ℕ) (m : memory.Meaning) (d : Need) → Bound-fits size d → Memory-fits size R m d → m .words .split ≤ size
+seen-split : (size R : ℕ) (m : memory.Meaning) (d : Need) → bound d ≤ size → Memory-fits size R m d → m .words .split ≤ size
 seen-split size R m quiet bound fits = quiet-split size m fits
 seen-split size R m (shared B S) bound fits = mode-split size R B m bound (fits .0)
-
-idle-bound : (flag : Bool) (split head size : ℕ) → (flag ≡ false → split ≤ head) → head ≤ size → Bound-fits size (idle-need flag split)
-idle-bound true split head size low high = tt
-idle-bound false split head size low high = omega (arith, low refl)
-
-module _ {J O : Type 0} where
-  bound-fits : (p : Phase J O) (flag : Bool) (told split head size : ℕ) → (flag ≡ false → split ≤ head) → head ≤ size → Phase-fits flag told split head p → Bound-fits size (need flag split head p)
-  bound-fits Idle flag told split head size low high fits = idle-bound flag split head size low high
-  bound-fits (Opening open-at.WritePair) flag told split head size low high fits = tt
-  bound-fits (Opening open-at.WriteFlag) flag told split head size low high fits = high
-  bound-fits (Opening open-at.ReadRequest) flag told split head size low high fits = omega (arith, low fits)
-  bound-fits (Sharing at end) flag told split head size low high fits = omega (arith, low fits)
-  bound-fits (Shrinking shrink-at.ReadPair job) flag told split head size low high fits = omega (arith, low (fits .0))
-  bound-fits (Shrinking (shrink-at.WriteSplit t s) job) flag told split head size low high fits = omega (arith, low (fits .0))
-  bound-fits (Shrinking (shrink-at.Fence t s) job) flag told split head size low high fits = omega (arith, fits .3)
-  bound-fits (Shrinking (shrink-at.ReadTail t s) job) flag told split head size low high fits = omega (arith, low (fits .0))
-  bound-fits (Shrinking (shrink-at.WriteAgain u s) job) flag told split head size low high fits = omega (arith, low (fits .0))
-  bound-fits Closing flag told split head size low high fits = tt
-  bound-fits (Retiring outcome) flag told split head size low high fits = tt
 
 module _ {J O : Type 0} (s : State J O) (R : ℕ) (sound : Sound (s .owner)) (safe : Safe R s) (n : ℕ) (helper : ℕ) where
   abbrev o : Owner J O
@@ -141,15 +119,9 @@ module _ {J O : Type 0} (s : State J O) (R : ℕ) (sound : Sound (s .owner)) (sa
     fine = fine;
   }
 
-  refused-goes : (name : Access) (refusal : Refusal) → (number refusal ≡ 20 → ⊥) → Goes R s (refused s name refusal) n
-  refused-goes name refusal fine = record {
-    safe = record { told = safe .told; memory = safe .memory; numbers = safe .numbers; aims = safe .aims; cells = safe .cells };
-    fine = fine;
-  }
-
   small-split : s .memory .words .split ≤ o .size
   small-split =
-      seen-split (o .size) R (s .memory) d (bound-fits (o .phase) (o .«own_flag») (o .told) (o .«own_split») (o .head) (o .size) (range .split-head) (range .head-size) (sound .fits)) (safe .memory)
+      seen-split (o .size) R (s .memory) d (omega (arith, range .head-size, need-bound (o .«own_flag») (o .told) (o .«own_split») (o .head) (o .phase) (sound .fits) (range .split-head))) (safe .memory)
 
   swap-goes : (t s′ : ℕ) (x : Option (Cell J O)) → (x ≡ None → ⊥) → Helps (swap-at s helper t s′ x)
   swap-goes t s′ None there = absurd (there refl)
@@ -186,7 +158,7 @@ module _ {J O : Type 0} (s : State J O) (R : ℕ) (sound : Sound (s .owner)) (sa
       by-test Helps (s .memory .words .request) _ _ (λ _. aims-on memory.reads access.ReadRequest NoShare ReadFlag (safe .memory) tt (λ no. omega arith)) (λ _. aims-on memory.reads access.ReadRequest Going WriteRequest (safe .memory) tt (λ no. omega arith))
   aimed-goes WriteRequest aimed =
       aims-on memory.asks access.WriteRequest NoShare ReadFlag (fits-same (o .size) R (s .memory) (memory.asked (s .memory .words)) d refl refl (safe .memory)) tt (λ no. omega arith)
-  aimed-goes (Hold position) aimed = refused-goes access.Step Holding (λ no. omega arith)
+  aimed-goes (Hold position) aimed = refused-goes s R sound safe n access.Step Holding (λ no. omega arith)
 
   aim-of : (hs : List Helper) (k : ℕ) (h : Helper) → All (λ x. Aim-fits (o .size) (x .aim)) hs → at hs k ≡ Some h → Aim-fits (o .size) (h .aim)
   aim-of [] k h all is = absurd (let z : _≡_ {A = ℕ} 0 1 = cc in omega arith)
@@ -198,15 +170,15 @@ module _ {J O : Type 0} (s : State J O) (R : ℕ) (sound : Sound (s .owner)) (sa
   aim-numbered (suc k) h is = aim-of (s .helpers) k h (safe .aims) is
 
   pub helper-goes : (x : Option Helper) → at-number (s .helpers) helper ≡ x → Helps (step-of s helper x)
-  helper-goes None is = refused-goes access.Step UnknownHelper (λ no. omega arith)
+  helper-goes None is = refused-goes s R sound safe n access.Step UnknownHelper (λ no. omega arith)
   helper-goes (Some h) is = aimed-goes (h .aim) (aim-numbered helper h is)
 
   finish-aimed-goes : (outcome : O) (a : Aim) → Goes R s (finish-aimed s helper outcome a) n
-  finish-aimed-goes outcome ReadFlag = refused-goes access.Finish HoldsNone (λ no. omega arith)
-  finish-aimed-goes outcome ReadPair = refused-goes access.Finish HoldsNone (λ no. omega arith)
-  finish-aimed-goes outcome (Swap pair) = refused-goes access.Finish HoldsNone (λ no. omega arith)
-  finish-aimed-goes outcome ReadRequest = refused-goes access.Finish HoldsNone (λ no. omega arith)
-  finish-aimed-goes outcome WriteRequest = refused-goes access.Finish HoldsNone (λ no. omega arith)
+  finish-aimed-goes outcome ReadFlag = refused-goes s R sound safe n access.Finish HoldsNone (λ no. omega arith)
+  finish-aimed-goes outcome ReadPair = refused-goes s R sound safe n access.Finish HoldsNone (λ no. omega arith)
+  finish-aimed-goes outcome (Swap pair) = refused-goes s R sound safe n access.Finish HoldsNone (λ no. omega arith)
+  finish-aimed-goes outcome ReadRequest = refused-goes s R sound safe n access.Finish HoldsNone (λ no. omega arith)
+  finish-aimed-goes outcome WriteRequest = refused-goes s R sound safe n access.Finish HoldsNone (λ no. omega arith)
   finish-aimed-goes outcome (Hold position) = record {
     safe = record {
       told = safe .told;
@@ -219,5 +191,5 @@ module _ {J O : Type 0} (s : State J O) (R : ℕ) (sound : Sound (s .owner)) (sa
   }
 
   pub finish-goes : (outcome : O) (x : Option Helper) → Goes R s (finish-of s helper outcome x) n
-  finish-goes outcome None = refused-goes access.Finish UnknownHelper (λ no. omega arith)
+  finish-goes outcome None = refused-goes s R sound safe n access.Finish UnknownHelper (λ no. omega arith)
   finish-goes outcome (Some h) = finish-aimed-goes outcome (h .aim)

@@ -32,6 +32,8 @@ use Rattle.model.specs.declared.owner.Shrink.the-variants as shrink-at
 use Rattle.model.specs.declared.reply.Access.{Access}
 use Rattle.model.specs.declared.reply.Access.the-variants as access
 use Rattle.model.specs.declared.reply.Refusal.the-variants.{Busy, Misread, WrongCells}
+use Rattle.model.proofs.Entries.{number-positive}
+use Rattle.model.proofs.Ways.{by-test, both, never, below}
 
 module _ {J O : Type 0} where
   pub calls-have-one-reply : Calls-have-one-reply J O
@@ -48,20 +50,13 @@ module _ {J O : Type 0} where
         );
       }
 
--- a choice by a test: what holds on both ways
-pub by-test : {X : Type 0} (P : X → Type 0) (b : Bool) (x y : X) → (b ≡ true → P x) → (b ≡ false → P y) → P (cond b x y)
-by-test P true x y yes-way no-way = yes-way refl
-by-test P false x y yes-way no-way = no-way refl
-
-pub both : (a b : Bool) → (a && b) ≡ true → (a ≡ true) × (b ≡ true)
-both true b is = (refl, is)
-both false b is = absurd (let z : _≡_ {A = ℕ} 0 1 = cc in omega arith)
-
-pub below : (a b : ℕ) → a ≤ b → (a ≡ b → ⊥) → a < b
-below a b up apart = omega (arith, apart)
-
-pub never : {P : Type 0} → true ≡ false → P
-never is = absurd (let z : _≡_ {A = ℕ} 0 1 = cc in omega arith)
+pub idle-is : {J O : Type 0} (p : Phase J O) → idle p ≡ true → p ≡ Idle
+idle-is Idle is = refl
+idle-is (Opening at) is = never (sym is)
+idle-is (Sharing at end) is = never (sym is)
+idle-is (Shrinking at job) is = never (sym is)
+idle-is Closing is = never (sym is)
+idle-is (Retiring outcome) is = never (sym is)
 
 module _ {J O : Type 0} (s : State J O) (sound : Sound (s .owner)) where
   abbrev o : Owner J O
@@ -165,12 +160,7 @@ module _ {J O : Type 0} (s : State J O) (sound : Sound (s .owner)) where
 
   -- with no operation unfinished, any numbers fit
   at-rest : (p : Phase J O) → idle p ≡ true → (flag : Bool) (told split head : ℕ) → Phase-fits flag told split head p
-  at-rest Idle is flag told split head = tt
-  at-rest (Opening at) is flag told split head = never (sym is)
-  at-rest (Sharing at end) is flag told split head = never (sym is)
-  at-rest (Shrinking at job) is flag told split head = never (sym is)
-  at-rest Closing is flag told split head = never (sym is)
-  at-rest (Retiring outcome) is flag told split head = never (sym is)
+  at-rest p is flag told split head = subst (Phase-fits flag told split head) (sym (idle-is p is)) tt
 
   shut-not-open : {P : Type 0} → o .«own_flag» ≡ true → o .«own_flag» ≡ false → P
   shut-not-open shut shared = never (sym shut ∙ shared)
@@ -192,10 +182,6 @@ module _ {J O : Type 0} (s : State J O) (sound : Sound (s .owner)) where
         fits = by-test (Phase-fits (o .«own_flag») (o .told) (o .«own_split») (o .head + 1)) (o .«own_flag») _ _ (λ shut. (shut, omega arith)) (λ shared. shared);
       }))
 
-  some-there : (cells : List (Cell J O)) (n : ℕ) (c : Cell J O) → at-number cells n ≡ Some c → 0 < n
-  some-there cells zero c is = absurd (let z : _≡_ {A = ℕ} 0 1 = cc in omega arith)
-  some-there cells (suc n) c is = omega arith
-
   popped-keeps : idle (o .phase) ≡ true → (x : Option (Cell J O)) → top s ≡ x → Keeps (popped s x)
   popped-keeps rest None is = sound
   popped-keeps rest (Some cell) is =
@@ -207,7 +193,7 @@ module _ {J O : Type 0} (s : State J O) (sound : Sound (s .owner)) where
       (λ shared.
       by-test Keeps (ltb (o .«own_split») (o .head)) _ _
       (λ private. to-work (cell .job) (o .«own_split») shared (range .told-split shared) (ltb-true _ _ private))
-      (λ all. to _ (shared, omega (arith, ltb-false _ _ all, range .split-head shared), some-there (s .cells) (o .head) cell is)))
+      (λ all. to _ (shared, omega (arith, ltb-false _ _ all, range .split-head shared), number-positive (s .cells) (o .head) cell is)))
 
   retired-with-keeps : idle (o .phase) ≡ true → (x : Option O) → Keeps (retired-with s x)
   retired-with-keeps rest None = sound

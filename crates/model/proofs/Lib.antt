@@ -1,3 +1,4 @@
+pub mod Ways
 pub mod Edges
 pub mod Keeping
 pub mod Modes

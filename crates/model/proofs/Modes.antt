@@ -13,6 +13,7 @@ use Rattle.memory.specs.Meaning.{Meaning, landed, all-landed, settled, oldest-l
 use Rattle.memory.specs.declared.words.Words.{Words}
 use Rattle.memory.specs.declared.words.Write.{Write}
 use Rattle.memory.specs.declared.words.Write.the-variants.{Pair, Split, Flag, Request}
+use Rattle.model.proofs.Ways.{both}
 
 abbrev pub NotPair : Write → Type 0
 NotPair (Pair t s) = ⊥
@@ -231,10 +232,6 @@ fence-shows size R B n m all mode =
     let shown : Mode size R (settled m .split) (record { words = settled m; waiting = [] }) = live (settled-tail size R B m mode) (omega arith) in
     subst (λ ys. Mode size R (settled m .split) (record { words = all-landed (take n xs) (m .words); waiting = ys })) (sym left)
     (subst (λ ys. Mode size R (settled m .split) (record { words = all-landed ys (m .words); waiting = [] })) (sym every) shown)
-
-both : (a b : Bool) → (a && b) ≡ true → (a ≡ true) × (b ≡ true)
-both true b is = (refl, is)
-both false b is = absurd (let z : _≡_ {A = ℕ} 0 1 = cc in omega arith)
 
 -- a swap that passes found the pair it names
 pub record Found (t s : ℕ) (w : Words) : Type 0 where

@@ -15,7 +15,7 @@ use Rattle.calls.specs.declared.call.Call.the-variants.{Push, Pop, Retire, Owne
 use Rattle.calls.specs.declared.party.Party.{Party}
 use Rattle.calls.specs.declared.party.Party.the-variants.{Owner, Helper}
 use Rattle.model.proofs.Events.{Stage, resting, unplaced, placed, Event, nothing, places, Push-allowed, Pop-allowed, Retire-allowed, Step-allowed, Attempt-allowed, Finish-allowed, Allowed, Happens}
-use Rattle.model.proofs.Keeping.{by-test}
+use Rattle.model.proofs.Ways.{by-test}
 use Rattle.model.specs.Calls.{Entry}
 use Rattle.model.specs.Orders.{Progress, going, ended, barred, progress, is-operation, attempt-goes, first-call, Begun, Operation, owner-after, owner-begun, attempt-after, attempt-begun, operation, alone, step-ends, attempt-ends, ends, Ended-in, Place, Along, In, Rises, Places, Under-way, Orders}
 use Rattle.model.specs.Plain.{Plain, Deed, pushes, pops, retires, takes, finishes, new-plain, does}

@@ -33,14 +33,11 @@ use Rattle.model.specs.declared.reply.Answer.{Answer}
 use Rattle.model.specs.declared.reply.Answer.the-variants.{Going, Pushed, Work, Stolen, Retired}
 use Rattle.model.specs.declared.reply.Refusal.{Refusal}
 use Rattle.model.specs.declared.reply.Refusal.the-variants.{Busy, NothingBegun, Full, Empty, NotTold, Unfinished, Misread}
-use Rattle.model.proofs.Keeping.{by-test, both, never, below}
+use Rattle.model.proofs.Entries.{length-changed}
+use Rattle.model.proofs.Keeping.{idle-is}
+use Rattle.model.proofs.Ways.{by-test, never, all-two}
 use Rattle.model.proofs.Modes.{Quiet, Mode, mode-quiet, mode-more, quiet-opens, settled-tail, fence-shows, settled-landed, settled-joins}
-use Rattle.model.proofs.Safe.{quiet, shared, idle-need, need, Memory-fits, idle-numbers, Numbers, Aim-fits, Safe, given-up, fits-lands, write-shared, write-quiet}
-
-pub length-changed : {X : Type 0} (xs : List X) (i : ℕ) (f : X → X) → length (changed xs i f) ≡ length xs
-length-changed [] i f = refl
-length-changed (x ∷ xs) zero f = refl
-length-changed (x ∷ xs) (suc i) f = ap suc (length-changed xs i f)
+use Rattle.model.proofs.Safe.{quiet, shared, idle-need, need, Memory-fits, idle-numbers, Numbers, Aim-fits, Safe, given-up, fits-lands, write-shared, write-quiet, rest-numbers}
 
 -- the call leads to a safe board, and does not refuse with 20
 pub record Goes {J O : Type 0} (stolen : ℕ) (s : State J O) (e : Effect J O) (n : ℕ) : Type 0 where
@@ -50,9 +47,6 @@ pub record Goes {J O : Type 0} (stolen : ℕ) (s : State J O) (e : Effect J O) (
 fine-ending : {J : Type 0} (O : Type 0) (end : Ending J) → refusal-number (ending-answer {O = O} end) ≡ 20 → ⊥
 fine-ending O ending.Pushed is = omega arith
 fine-ending O (ending.Work job) is = omega arith
-
-all-two : (a b : Bool) → a ≡ true → b ≡ true → (a && b) ≡ true
-all-two a b one two = ap (λ x. x && b) one ∙ two
 
 all-three : (a b c : Bool) → a ≡ true → b ≡ true → c ≡ true → (a && (b && c)) ≡ true
 all-three a b c one two three = all-two a (b && c) one (all-two b c two three)
@@ -78,7 +72,7 @@ module _ {J O : Type 0} (s : State J O) (R : ℕ) (sound : Sound (s .owner)) (sa
   }
 
   -- a refused call leaves the board as it was
-  refused-goes : (name : Access) (refusal : Refusal) → (number refusal ≡ 20 → ⊥) → Goes R s (refused s name refusal) n
+  pub refused-goes : (name : Access) (refusal : Refusal) → (number refusal ≡ 20 → ⊥) → Goes R s (refused s name refusal) n
   refused-goes name refusal fine = record {
     safe = record { told = safe .told; memory = safe .memory; numbers = safe .numbers; aims = safe .aims; cells = safe .cells };
     fine = fine;
@@ -210,50 +204,27 @@ module _ {J O : Type 0} (s : State J O) (R : ℕ) (sound : Sound (s .owner)) (sa
 
   -- with no operation under way the board is shut or open
   rest-memory : (p : Phase J O) → idle p ≡ true → Owes p → Memory-fits (o .size) R (s .memory) (idle-need (o .«own_flag») (o .«own_split»))
-  rest-memory Idle is owes = owes
-  rest-memory (Opening at) is owes = never (sym is)
-  rest-memory (Sharing at end) is owes = never (sym is)
-  rest-memory (Shrinking at job) is owes = never (sym is)
-  rest-memory Closing is owes = never (sym is)
-  rest-memory (Retiring outcome) is owes = never (sym is)
-
-  rest-numbers : (p : Phase J O) → idle p ≡ true → Stands p → idle-numbers (o .«own_flag») R (o .«own_split») (o .head)
-  rest-numbers Idle is stands = stands
-  rest-numbers (Opening at) is stands = never (sym is)
-  rest-numbers (Sharing at end) is stands = never (sym is)
-  rest-numbers (Shrinking at job) is stands = never (sym is)
-  rest-numbers Closing is stands = never (sym is)
-  rest-numbers (Retiring outcome) is stands = never (sym is)
+  rest-memory p is owes = subst Owes (idle-is p is) owes
 
   -- and what it owes and where it stands go back to its own phase
   rest-owes : (p : Phase J O) (R′ : ℕ) (σ head : ℕ) (m : memory.Meaning) → idle p ≡ true → Memory-fits (o .size) R′ m (idle-need (o .«own_flag») σ) → Memory-fits (o .size) R′ m (need (o .«own_flag») σ head p)
-  rest-owes Idle R′ σ head m is owes = owes
-  rest-owes (Opening at) R′ σ head m is owes = never (sym is)
-  rest-owes (Sharing at end) R′ σ head m is owes = never (sym is)
-  rest-owes (Shrinking at job) R′ σ head m is owes = never (sym is)
-  rest-owes Closing R′ σ head m is owes = never (sym is)
-  rest-owes (Retiring outcome) R′ σ head m is owes = never (sym is)
+  rest-owes p R′ σ head m is owes = subst (λ q. Memory-fits (o .size) R′ m (need (o .«own_flag») σ head q)) (sym (idle-is p is)) owes
 
   rest-stands : (p : Phase J O) (R′ σ head : ℕ) → idle p ≡ true → idle-numbers (o .«own_flag») R′ σ head → Numbers (o .«own_flag») R′ σ head p
-  rest-stands Idle R′ σ head is stands = stands
-  rest-stands (Opening at) R′ σ head is stands = never (sym is)
-  rest-stands (Sharing at end) R′ σ head is stands = never (sym is)
-  rest-stands (Shrinking at job) R′ σ head is stands = never (sym is)
-  rest-stands Closing R′ σ head is stands = never (sym is)
-  rest-stands (Retiring outcome) R′ σ head is stands = never (sym is)
+  rest-stands p R′ σ head is stands = subst (Numbers (o .«own_flag») R′ σ head) (sym (idle-is p is)) stands
 
   module _ (rest : idle (o .phase) ≡ true) where
     shut-memory : o .«own_flag» ≡ true → Quiet (o .size) (s .memory)
     shut-memory shut = subst (λ f. Memory-fits (o .size) R (s .memory) (idle-need f (o .«own_split»))) shut (rest-memory (o .phase) rest (safe .memory))
 
     shut-numbers : o .«own_flag» ≡ true → R ≡ o .head
-    shut-numbers shut = subst (λ f. idle-numbers f R (o .«own_split») (o .head)) shut (rest-numbers (o .phase) rest (safe .numbers))
+    shut-numbers shut = subst (λ f. idle-numbers f R (o .«own_split») (o .head)) shut (rest-numbers (o .«own_flag») R (o .«own_split») (o .head) (o .phase) rest (safe .numbers))
 
     open-memory : o .«own_flag» ≡ false → Memory-fits (o .size) R (s .memory) (shared (o .«own_split») (o .«own_split»))
     open-memory shared-flag = subst (λ f. Memory-fits (o .size) R (s .memory) (idle-need f (o .«own_split»))) shared-flag (rest-memory (o .phase) rest (safe .memory))
 
     open-numbers : o .«own_flag» ≡ false → R ≤ o .«own_split»
-    open-numbers shared-flag = subst (λ f. idle-numbers f R (o .«own_split») (o .head)) shared-flag (rest-numbers (o .phase) rest (safe .numbers))
+    open-numbers shared-flag = subst (λ f. idle-numbers f R (o .«own_split») (o .head)) shared-flag (rest-numbers (o .«own_flag») R (o .«own_split») (o .head) (o .phase) rest (safe .numbers))
 
   pub push-goes : (job : J) → Goes R s (push s job) n
   push-goes job =

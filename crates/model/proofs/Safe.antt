@@ -16,7 +16,8 @@ use Rattle.model.specs.Orders.{Progress, going, ended, barred, progress}
 use Rattle.model.specs.declared.reply.Answer.{Answer}
 use Rattle.model.specs.declared.reply.Answer.the-variants.{Going, Pushed, Work, Stolen, Retired, Taken, AllGone, NoShare, Changed, Finished, Refused}
 use Rattle.model.specs.State.{State}
-use Rattle.model.specs.Keeping.{Sound}
+use Rattle.model.specs.Keeping.{Phase-fits}
+use Rattle.model.specs.Owning.{idle}
 use Rattle.model.specs.declared.helper.Aim.{Aim}
 use Rattle.model.specs.declared.helper.Aim.the-variants.{ReadFlag, ReadPair, Swap, ReadRequest, WriteRequest, Hold}
 use Rattle.model.specs.declared.helper.Helper.{Helper}
@@ -26,6 +27,7 @@ use Rattle.model.specs.declared.owner.Phase.the-variants.{Idle, Opening, Shari
 use Rattle.model.specs.declared.owner.Share.the-variants as share-at
 use Rattle.model.specs.declared.owner.Shrink.the-variants as shrink-at
 use Rattle.model.proofs.Modes.{Quiet, Mode, Within, Stolen-one, with-words, quiet-lands, mode-lands, mode-more, mode-joins, quiet-joins, quiet-opens, mode-quiet, settled-tail, settled-landed, settled-joins, settled-split-same, mode-same, quiet-same, fence-shows, quiet-no-swap, mode-swap}
+use Rattle.model.proofs.Keeping.{idle-is}
 
 -- what the memory owes a phase: nothing can be stolen, or splits up to a bound are seen and the owner reads this one
 pub data Need : Type 0 where
@@ -136,3 +138,32 @@ next-stolen OwnerStep answer R = R
 next-stolen (HelperStep helper) answer R = taken-more answer R
 next-stolen (Finish helper outcome) answer R = R
 next-stolen Land answer R = R
+
+-- the highest split that helpers may see
+abbrev pub bound : Need → ℕ
+bound quiet = 0
+bound (shared B S) = B
+
+idle-bound : (flag : Bool) (split head : ℕ) → (flag ≡ false → split ≤ head) → bound (idle-need flag split) ≤ head
+idle-bound true split head low = omega arith
+idle-bound false split head low = low refl
+
+module _ {J O : Type 0} where
+  -- no split above head is seen
+  pub need-bound : (flag : Bool) (told split head : ℕ) (p : Phase J O) → Phase-fits flag told split head p → (flag ≡ false → split ≤ head) → bound (need flag split head p) ≤ head
+  need-bound flag told split head Idle fits low = idle-bound flag split head low
+  need-bound flag told split head (Opening open-at.WritePair) fits low = omega arith
+  need-bound flag told split head (Opening open-at.WriteFlag) fits low = omega arith
+  need-bound flag told split head (Opening open-at.ReadRequest) fits low = low fits
+  need-bound flag told split head (Sharing step end) fits low = low fits
+  need-bound flag told split head (Shrinking shrink-at.ReadPair job) fits low = low (fits .0)
+  need-bound flag told split head (Shrinking (shrink-at.WriteSplit t s′) job) fits low = low (fits .0)
+  need-bound flag told split head (Shrinking (shrink-at.Fence t s′) job) fits low = let (open-flag, low-told, less, whole, half) = fits in omega arith
+  need-bound flag told split head (Shrinking (shrink-at.ReadTail t s′) job) fits low = low (fits .0)
+  need-bound flag told split head (Shrinking (shrink-at.WriteAgain u s′) job) fits low = low (fits .0)
+  need-bound flag told split head Closing fits low = omega arith
+  need-bound flag told split head (Retiring outcome) fits low = omega arith
+
+  -- with no operation under way the board is shut or open
+  pub rest-numbers : (flag : Bool) (R split head : ℕ) (p : Phase J O) → idle p ≡ true → Numbers flag R split head p → idle-numbers flag R split head
+  rest-numbers flag R split head p is numbers = subst (Numbers flag R split head) (idle-is p is) numbers

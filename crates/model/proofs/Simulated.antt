@@ -45,9 +45,9 @@ use Rattle.model.specs.declared.reply.Refusal.the-variants.{UnknownHelper, Hol
 use Rattle.model.proofs.Cells.{Holds-none, Fitting, Top-job, Job-fits, job-stays, fit-push, fit-lower, fit-retire, fit-aims, fit-takes, fit-finish, plain-holds-none, plain-holds, Cells-fit}
 use Rattle.model.proofs.Entries.{numbered, number-positive, number-of, take-at, take-number, take-changed, take-newest, oldest-is}
 use Rattle.model.proofs.Events.{Stage, resting, unplaced, placed, stage, Event, nothing, places, Step-allowed, Attempt-allowed, Allowed, Happens}
-use Rattle.model.proofs.Keeping.{by-test, never, below}
+use Rattle.model.proofs.Ways.{by-test, never, below}
 use Rattle.model.proofs.Modes.{quiet-no-swap, mode-swap, settled-tail}
-use Rattle.model.proofs.Safe.{Need, quiet, shared, idle-need, need, Memory-fits, idle-numbers, Numbers, Safe, next-stolen}
+use Rattle.model.proofs.Safe.{Need, quiet, shared, idle-need, need, Memory-fits, idle-numbers, Numbers, Safe, next-stolen, bound, need-bound, rest-numbers}
 
 abbrev holding : Aim → Bool
 holding ReadFlag = false
@@ -60,21 +60,12 @@ holding (Hold position) = true
 holds-none : (a b : Aim) → a ≡ b → holding b ≡ false → Holds-none a
 holds-none a b is no-hold p other = never (sym (ap holding other) ∙ (ap holding is ∙ no-hold))
 
--- the highest split that helpers may see
-abbrev bound : Need → ℕ
-bound quiet = 0
-bound (shared B S) = B
-
 -- a passed swap takes the oldest position that is not stolen, and it lies below head
 swap-takes : (size R head t s′ : ℕ) (m : memory.Meaning) (d : Need) → Memory-fits size R m d → bound d ≤ head → memory.swap-passes t s′ (m .words) ≡ true → (t ≡ R) × (R < head)
 swap-takes size R head t s′ m quiet fits up passes = absurd (quiet-no-swap size t s′ m fits passes)
 swap-takes size R head t s′ m (shared B S) fits up passes =
     let one = mode-swap size R B t s′ m (fits .0) passes in
     (one .position, omega (arith, one .shared))
-
-idle-bound : (flag : Bool) (split head : ℕ) → (flag ≡ false → split ≤ head) → bound (idle-need flag split) ≤ head
-idle-bound true split head low = omega arith
-idle-bound false split head low = low refl
 
 module _ {J O : Type 0} where
   -- the plain board of an owner and its cells
@@ -84,20 +75,6 @@ module _ {J O : Type 0} where
   abbrev pub plain-of : State J O → Plain J O
   plain-of s = plain-with (s .owner) (s .cells)
 
-  need-bound : (flag : Bool) (told split head : ℕ) (p : Phase J O) → Phase-fits flag told split head p → (flag ≡ false → split ≤ head) → bound (need flag split head p) ≤ head
-  need-bound flag told split head Idle fits low = idle-bound flag split head low
-  need-bound flag told split head (Opening open-at.WritePair) fits low = omega arith
-  need-bound flag told split head (Opening open-at.WriteFlag) fits low = omega arith
-  need-bound flag told split head (Opening open-at.ReadRequest) fits low = low fits
-  need-bound flag told split head (Sharing step end) fits low = low fits
-  need-bound flag told split head (Shrinking shrink-at.ReadPair job) fits low = low (fits .0)
-  need-bound flag told split head (Shrinking (shrink-at.WriteSplit t s′) job) fits low = low (fits .0)
-  need-bound flag told split head (Shrinking (shrink-at.Fence t s′) job) fits low = let (open-flag, low-told, less, whole, half) = fits in omega arith
-  need-bound flag told split head (Shrinking (shrink-at.ReadTail t s′) job) fits low = low (fits .0)
-  need-bound flag told split head (Shrinking (shrink-at.WriteAgain u s′) job) fits low = low (fits .0)
-  need-bound flag told split head Closing fits low = omega arith
-  need-bound flag told split head (Retiring outcome) fits low = omega arith
-
   -- a phase with no operation unfinished
   rest-stage : (p : Phase J O) → idle p ≡ true → stage p ≡ resting
   rest-stage Idle is = refl
@@ -106,14 +83,6 @@ module _ {J O : Type 0} where
   rest-stage (Shrinking step job) is = never (sym is)
   rest-stage Closing is = never (sym is)
   rest-stage (Retiring outcome) is = never (sym is)
-
-  rest-numbers : (flag : Bool) (R split head : ℕ) (p : Phase J O) → idle p ≡ true → Numbers flag R split head p → idle-numbers flag R split head
-  rest-numbers flag R split head Idle is numbers = numbers
-  rest-numbers flag R split head (Opening step) is numbers = never (sym is)
-  rest-numbers flag R split head (Sharing step end) is numbers = never (sym is)
-  rest-numbers flag R split head (Shrinking step job) is numbers = never (sym is)
-  rest-numbers flag R split head Closing is numbers = never (sym is)
-  rest-numbers flag R split head (Retiring outcome) is numbers = never (sym is)
 
   rest-job : (head : ℕ) (cells : List (Cell J O)) (p : Phase J O) → idle p ≡ true → Job-fits head cells p
   rest-job head cells Idle is = tt

@@ -27,21 +27,12 @@ use Rattle.model.specs.declared.reply.Access.the-variants as access
 use Rattle.model.specs.declared.reply.Answer.{Answer}
 use Rattle.model.specs.declared.reply.Refusal.the-variants.{WrongCells}
 use Rattle.model.proofs.HelperStays.{helper-goes, finish-goes}
-use Rattle.model.proofs.Keeping.{by-test, numbers-keep}
-use Rattle.model.proofs.OwnerStays.{Goes, step-goes, push-goes, pop-goes, retire-goes}
+use Rattle.model.proofs.Keeping.{numbers-keep}
+use Rattle.model.proofs.OwnerStays.{Goes, refused-goes, step-goes, push-goes, pop-goes, retire-goes}
 use Rattle.model.proofs.Safe.{need, Aim-fits, Safe, taken-more, given-up, next-stolen, fits-lands}
-
-by-test-with : {X : Type 0} (M P : X → Type 0) (b : Bool) (x y : X) → M (cond b x y) → (M x → P x) → (M y → P y) → P (cond b x y)
-by-test-with M P true x y m yes-way no-way = yes-way m
-by-test-with M P false x y m yes-way no-way = no-way m
+use Rattle.model.proofs.Ways.{by-test, by-test-with}
 
 module _ {J O : Type 0} (s : State J O) (R : ℕ) (sound : Sound (s .owner)) (safe : Safe R s) (handed n : ℕ) where
-  wrong-cells : (name : Access) → Goes R s (refused s name WrongCells) n
-  wrong-cells name = record {
-    safe = record { told = safe .told; memory = safe .memory; numbers = safe .numbers; aims = safe .aims; cells = safe .cells };
-    fine = λ no. omega arith;
-  }
-
   -- a call that is handed another number of cells changes nothing
   cells-go : (P : Effect J O → Type 0) (name : Access) (e : Effect J O) → P e → P (refused s name WrongCells) → P (with-cells s handed name e)
   cells-go P name e goes wrong = by-test P (eqb handed (s .owner .size)) e (refused s name WrongCells) (λ _. goes) (λ _. wrong)
@@ -49,18 +40,18 @@ module _ {J O : Type 0} (s : State J O) (R : ℕ) (sound : Sound (s .owner)) (sa
   step-may : memory.May-land (effect-of s handed OwnerStep .touches) n (s .memory) → Goes R s (effect-of s handed OwnerStep) n
   step-may may =
       by-test-with (λ e. memory.May-land (e .touches) n (s .memory)) (λ e. Goes R s e n) (eqb handed (s .owner .size)) (owner-step s) (refused s access.Step WrongCells) may
-      (step-goes s R sound safe n (s .owner .phase) (sound .fits) (safe .memory) (safe .numbers)) (λ _. wrong-cells access.Step)
+      (step-goes s R sound safe n (s .owner .phase) (sound .fits) (safe .memory) (safe .numbers)) (λ _. refused-goes s R sound safe n access.Step WrongCells (λ no. omega arith))
 
   pub call-goes : (call : Call J O) → memory.May-land (effect-of s handed call .touches) n (s .memory) → Goes (next-stolen call (effect-of s handed call .answer) R) s (effect-of s handed call) n
-  call-goes (Push job) may = cells-go (λ e. Goes R s e n) access.Push (push s job) (push-goes s R sound safe n job) (wrong-cells access.Push)
-  call-goes Pop may = cells-go (λ e. Goes R s e n) access.Pop (pop s) (pop-goes s R sound safe n) (wrong-cells access.Pop)
+  call-goes (Push job) may = cells-go (λ e. Goes R s e n) access.Push (push s job) (push-goes s R sound safe n job) (refused-goes s R sound safe n access.Push WrongCells (λ no. omega arith))
+  call-goes Pop may = cells-go (λ e. Goes R s e n) access.Pop (pop s) (pop-goes s R sound safe n) (refused-goes s R sound safe n access.Pop WrongCells (λ no. omega arith))
   call-goes Retire may =
-      cells-go (λ e. Goes (given-up (progress (e .answer)) R) s e n) access.Retire (retire s) (retire-goes s R sound safe n) (wrong-cells access.Retire)
+      cells-go (λ e. Goes (given-up (progress (e .answer)) R) s e n) access.Retire (retire s) (retire-goes s R sound safe n) (refused-goes s R sound safe n access.Retire WrongCells (λ no. omega arith))
   call-goes OwnerStep may = step-may may
   call-goes (HelperStep helper) may =
-      cells-go (λ e. Goes (taken-more (e .answer) R) s e n) access.Step (helper-step s helper) (helper-goes s R sound safe n helper (at-number (s .helpers) helper) refl) (wrong-cells access.Step)
+      cells-go (λ e. Goes (taken-more (e .answer) R) s e n) access.Step (helper-step s helper) (helper-goes s R sound safe n helper (at-number (s .helpers) helper) refl) (refused-goes s R sound safe n access.Step WrongCells (λ no. omega arith))
   call-goes (Finish helper outcome) may =
-      cells-go (λ e. Goes R s e n) access.Finish (finish s helper outcome) (finish-goes s R sound safe n helper outcome (at-number (s .helpers) helper)) (wrong-cells access.Finish)
+      cells-go (λ e. Goes R s e n) access.Finish (finish s helper outcome) (finish-goes s R sound safe n helper outcome (at-number (s .helpers) helper)) (refused-goes s R sound safe n access.Finish WrongCells (λ no. omega arith))
   call-goes Land may = record {
     safe = record {
       told = safe .told;

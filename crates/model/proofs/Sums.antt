@@ -40,9 +40,10 @@ use Rattle.model.specs.declared.reply.Answer.{Answer}
 use Rattle.model.specs.declared.reply.Answer.the-variants.{Going, Pushed, Work, Stolen, Retired, Taken, AllGone, NoShare, Changed, Finished}
 use Rattle.model.specs.declared.reply.Refusal.{Refusal}
 use Rattle.model.specs.declared.reply.Refusal.the-variants.{Busy, Full, Empty, NotTold, Unfinished, Misread, WrongCells}
-use Rattle.model.proofs.Entries.{none-there, Taken-at, Free-at}
-use Rattle.model.proofs.Keeping.{by-test, never}
+use Rattle.model.proofs.Entries.{none-there, number-positive, Taken-at, Free-at}
 use Rattle.model.proofs.Safe.{taken-more, given-up, next-stolen}
+use Rattle.model.proofs.Keeping.{idle-is}
+use Rattle.model.proofs.Ways.{by-test}
 
 abbrev pub one : Bool → ℕ
 one b = cond b 1 0
@@ -78,12 +79,7 @@ module _ {J O : Type 0} where
     pub sum : one (is-pushed (e .answer)) + owes-push (e .owner .phase) + R′ + (owes-work p + head) ≡ one (is-work (e .answer)) + owes-work (e .owner .phase) + one (is-taken (e .answer)) + e .owner .head + (owes-push p + R)
 
 rest-owes-none : {J O : Type 0} (p : Phase J O) → idle p ≡ true → (owes-push p ≡ 0) × (owes-work p ≡ 0)
-rest-owes-none Idle is = (refl, refl)
-rest-owes-none (Opening at) is = never (sym is)
-rest-owes-none (Sharing at end) is = never (sym is)
-rest-owes-none (Shrinking at job) is = never (sym is)
-rest-owes-none Closing is = never (sym is)
-rest-owes-none (Retiring outcome) is = never (sym is)
+rest-owes-none p is = subst (λ q. (owes-push q ≡ 0) × (owes-work q ≡ 0)) (sym (idle-is p is)) (refl, refl)
 
 end-answers : {J : Type 0} (O : Type 0) (end : Ending J) (R head : ℕ) → one (is-pushed {O = O} (ending-answer end)) + 0 + R + (end-work end + head) ≡ one (is-work {O = O} (ending-answer end)) + 0 + one (is-taken {O = O} (ending-answer end)) + head + (end-push end + R)
 end-answers O ending.Pushed R head = omega arith
@@ -143,15 +139,11 @@ module _ {J O : Type 0} (s : State J O) (R : ℕ) (sound : Sound (s .owner)) whe
       (λ _. record { sum = by-test (λ p. 0 + owes-push p + R + (owes-work (o .phase) + o .head) ≡ 0 + owes-work p + 0 + (o .head + 1) + (owes-push (o .phase) + R)) (o .«own_flag») (Opening open-at.WritePair) (Sharing share-at.ReadRequest ending.Pushed) (λ _. omega arith) (λ _. omega arith) }))
       (λ _. refused-same access.Push Busy)
 
-  some-there : (cells : List (Cell J O)) (n : ℕ) (c : Cell J O) → at-number cells n ≡ Some c → 0 < n
-  some-there cells zero c is = absurd (let z : _≡_ {A = ℕ} 0 1 = cc in omega arith)
-  some-there cells (suc n) c is = omega arith
-
   popped-accounts : idle (o .phase) ≡ true → (x : Option (Cell J O)) → top s ≡ x → Same (o .phase) (popped s x)
   popped-accounts rest None is = refused-same access.Pop Empty
   popped-accounts rest (Some cell) is =
       let (no-push, no-work) = rest-owes-none (o .phase) rest in
-      let some = some-there (s .cells) (o .head) cell is in
+      let some = number-positive (s .cells) (o .head) cell is in
       by-test (Same (o .phase)) (o .«own_flag») _ _ (λ _. record { sum = omega arith })
       (λ _. by-test (Same (o .phase)) (ltb (o .«own_split») (o .head)) _ _ (λ _. record { sum = omega arith }) (λ _. record { sum = omega arith }))
 
@@ -171,7 +163,7 @@ module _ {J O : Type 0} (s : State J O) (R : ℕ) (sound : Sound (s .owner)) whe
   retired-accounts : idle (o .phase) ≡ true → o .told ≤ R → (x : Option (Cell J O)) → top s ≡ x → Gives (retired s x)
   retired-accounts rest told None is = refused-same access.Retire Empty
   retired-accounts rest told (Some cell) is =
-      let some = some-there (s .cells) (o .head) cell is in
+      let some = number-positive (s .cells) (o .head) cell is in
       by-test Gives (ltb (o .told) (o .head)) (refused s access.Retire NotTold) (retired-with s (cell .outcome)) (λ _. refused-same access.Retire NotTold)
       (λ past. retired-with-accounts rest some (omega (arith, ltb-false _ _ past)) (cell .outcome))
 
