@@ -8,7 +8,7 @@ use borrow.Author.Tests.{ltb-true}
 use lib.IntN.{ℤ, pos, negsuc, natAbs}
 use lib.ListN.{length, getD, take, set}
 use lib.Signed.{ltZ}
-use Rattle.std.proofs.shelf.Decimals.{decimal-digit, decimal-step}
+use Rattle.std.proofs.shelf.Decimals.{decimal-digit, decimal-step, length-decimal-le}
 use Rattle.std.proofs.shelf.Lists.{take-all, take-append-le, take-more, take-more-set, length-push, length-take-le}
 use Rattle.std.specs.Written.{decimal, signed}
 use Rattle.text.specs.Content.{content, fitting, Gains}
@@ -47,6 +47,9 @@ pub decimal-one : {s t : Text} (n : ℕ) → n < 10 → Gains s ((48 + n % 10) �
 decimal-one n small gains =
     let same : n % 10 ≡ n = omega arith in
     same-piece (ap (λ digit. (48 + digit) ∷ []) same ∙ sym (decimal-digit n small)) gains
+
+pub five-digits : (n : ℕ) → n < 2 ^ 16 → length (decimal n) ≤ 5
+five-digits n fits = length-decimal-le 5 n (omega arith) (omega arith) (omega arith)
 
 pub minus-then : {s t u : Text} (z : ℤ) → ltZ z (pos 0) ≡ true → Gains s (45 ∷ []) t → Gains t (decimal (natAbs z)) u → Gains s (signed z) u
 minus-then (pos n) below minus digits = absurd (omega (arith, ltb-true n 0 below))

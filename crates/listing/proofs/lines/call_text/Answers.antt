@@ -4,8 +4,7 @@ use native.Mathlib.Omega.{arith}
 use lib.ListN.{length, length-append}
 use Rattle.calls.specs.Calls.{party-text}
 use Rattle.calls.specs.declared.party.Party.{Party}
-use Rattle.text.proofs.Fitting.{same-piece, then, whole}
-use Rattle.listing.proofs.Short.{five}
+use Rattle.text.proofs.Fitting.{five-digits, same-piece, then, whole}
 use Rattle.listing.proofs.lines.call_text.Needs as need
 
 pub returns : need.returns
@@ -15,6 +14,6 @@ returns g c =
     let party-short = subst (λ (p : Party). length (party-text p) ≤ 4) same (c .print .ensures .short) in
     let name-short = c .print-name .ensures .short in
     let argument-short = c .print-argument .ensures .short in
-    let number-short = five (c .args .number) (omega arith) in
+    let number-short = five-digits (c .args .number) (omega arith) in
     let gains = then (c .push-number .ensures .gains) (then (c .push .ensures .gains) (then party (then (c .push-2 .ensures .gains) (then (c .print-name .ensures .gains) (c .print-argument .ensures .gains))))) in
     record { text = whole (c .new-out .ensures .empty) gains (simp length-append (omega arith)) }
