@@ -1,5 +1,7 @@
 // What the tills ask of a board: the calls, who makes each, and the layers that can refuse one.
 // It says nothing of what a call does; that is the board's.
+#![tactic(auto)]
+
 mod call;
 
 pub use call::Call;

@@ -1,5 +1,7 @@
 // Reads a day file from standard input, runs it, and prints a line for each call.
 // All it prints is made by `runner`; here is only what reaches outside.
+#![tactic(auto)]
+
 use anyhow::anyhow;
 use runner::{DayFault, run_day};
 use std::io::{Read, Write};

@@ -1,5 +1,7 @@
 // Reads a day file from standard input and prints what it holds.
 // All it prints is made by `listing`; here is only what reaches outside.
+#![tactic(auto)]
+
 use listing::list_day;
 use std::io::{Read, Write};
 

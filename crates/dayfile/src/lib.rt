@@ -1,5 +1,7 @@
 // Day files: a reader that gives one record per call, or what is wrong with the file and where.
 // It borrows the bytes, allocates nothing and asks nothing of them beforehand.
+#![tactic(auto)]
+
 mod reader;
 mod tag;
 

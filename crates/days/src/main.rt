@@ -1,5 +1,7 @@
 // Runs each stored day and compares what it prints with what it must print.
 // The files stand in data/: NAME.day is a day file, NAME.out the lines that it must print, to the byte.
+#![tactic(auto)]
+
 use runner::run_day;
 use std::fs;
 

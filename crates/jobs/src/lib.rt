@@ -1,5 +1,7 @@
 // The kinds of job that a board carries: how each is read from bytes and how it is printed.
 // It knows nothing of boards or of files; a new kind of job is a new `impl Job` here.
+#![tactic(auto)]
+
 mod fault;
 mod words;
 

@@ -1,4 +1,6 @@
 // The printed line of one call, written into the caller's buffer.
+#![tactic(auto)]
+
 mod fault;
 
 pub use fault::LineFault;

@@ -1,4 +1,6 @@
 // What a job board means: its plain types, which the board's code uses too.
+#![tactic(auto)]
+
 mod cell;
 
 pub use cell::Cell;

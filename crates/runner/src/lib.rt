@@ -1,4 +1,6 @@
 // One day: a file's records are read, run on a board and printed, one after another.
+#![tactic(auto)]
+
 mod fault;
 
 pub use fault::{CallFault, DayFault};

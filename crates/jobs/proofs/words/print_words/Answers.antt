@@ -5,6 +5,6 @@ use Rattle.jobs.proofs.words.print_words.Goals as goal
 
 pub returns : goal.returns
 returns c = record {
-  gains = then c.push-str.ensures.gains (then c.push-number.ensures.gains (then c.push.ensures.gains c.push-number-2.ensures.gains));
+  gains = then c.push_str.ensures.gains (then c.push_number.ensures.gains (then c.push.ensures.gains c.push_number-2.ensures.gains));
   short = words_short _ c.args.first c.args.second c.requires (omega arith) (omega arith);
 }

@@ -8,12 +8,12 @@ returns-in-Work g c =
 
 pub returns-in-Retired : goal.returns-in-Retired
 returns-in-Retired g c =
-    let detailed = retired_detailed g.J.Job.form g.J.Job.outcome c.in-Retired.is c.push.ensures.gains c.print-outcome.ensures.prints in
+    let detailed = retired_detailed g.J.Job.form g.J.Job.outcome c.in-Retired.is c.push.ensures.gains c.print_outcome.ensures.prints in
     record { gains = detailed.gains; short = detailed.short }
 
 pub returns-in-Refused : goal.returns-in-Refused
 returns-in-Refused g c =
-    let detailed = refused_detailed g.J.Job.form g.J.Job.outcome c.in-Refused.is c.number.ensures.number c.push-in-Refused.ensures.gains c.push-number.ensures.gains c.push-number.ensures.short in
+    let detailed = refused_detailed g.J.Job.form g.J.Job.outcome c.in-Refused.is c.number.ensures.number c.push-in-Refused.ensures.gains c.push_number.ensures.gains c.push_number.ensures.short in
     record { gains = detailed.gains; short = detailed.short }
 
 pub returns-in-default : goal.returns-in-default

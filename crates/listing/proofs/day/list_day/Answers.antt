@@ -8,7 +8,7 @@ use Rattle.listing.proofs.day.list_day.Goals as goal
 
 pub returns : goal.returns
 returns c = record {
-  listing = c.list-new.ensures.listing;
-  card-days = written_day_listed Cards card_form balance_form cards_back balances_back (λ file. refl);
-  label-days = written_day_listed Labels label_form printed_form labels_back printed_back (λ file. refl);
+  listing = c.list_new.ensures.listing;
+  card_days = written_day_listed Cards card_form balance_form cards_back balances_back (λ file. refl);
+  label_days = written_day_listed Labels label_form printed_form labels_back printed_back (λ file. refl);
 }

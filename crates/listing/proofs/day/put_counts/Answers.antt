@@ -4,7 +4,7 @@ use Rattle.listing.proofs.day.put_counts.Goals as goal
 
 pub returns : goal.returns
 returns c =
-    let front = c.as-bytes.ensures.content ∙ c.closing-front-text.ensures.text in
+    let front = c.as_bytes.ensures.content ∙ c.closing_front_text.ensures.text in
     record {
-      line = two_parts _ _ _ _ _ _ _ c.in-ok-extend-from-slice.ensures.items front c.in-ok-put-line.ensures.line c.closing-back-text.ensures.text;
+      line = two_parts _ _ _ _ _ _ _ c.in-ok-extend_from_slice.ensures.items front c.in-ok-put_line.ensures.line c.closing_back_text.ensures.text;
     }

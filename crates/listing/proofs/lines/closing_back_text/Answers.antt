@@ -5,5 +5,5 @@ use Rattle.listing.proofs.lines.closing_back_text.Goals as goal
 pub returns : goal.returns
 returns c =
     let gains =
-    then c.push-str.ensures.gains (then c.push-number.ensures.gains (then c.push-str-2.ensures.gains (then c.push-number-2.ensures.gains (then c.push-str-3.ensures.gains (then c.push-number-3.ensures.gains (then c.push-str-4.ensures.gains c.push-number-4.ensures.gains)))))) in
+    then c.push_str.ensures.gains (then c.push_number.ensures.gains (then c.push_str-2.ensures.gains (then c.push_number-2.ensures.gains (then c.push_str-3.ensures.gains (then c.push_number-3.ensures.gains (then c.push_str-4.ensures.gains c.push_number-4.ensures.gains)))))) in
     record { text = whole c.new-out.ensures.empty gains (back_short c.args.counts.now c.requires) }

@@ -5,7 +5,7 @@ use Rattle.listing.proofs.lines.closing_front_text.Goals as goal
 
 pub returns : goal.returns
 returns c =
-    let total = same_piece (ap decimal c.total.ensures.total) c.push-number.ensures.gains in
+    let total = same_piece (ap decimal c.total.ensures.total) c.push_number.ensures.gains in
     let gains =
-    then total (then c.push-str.ensures.gains (then c.push-number-2.ensures.gains (then c.push-str-2.ensures.gains (then c.push-number-3.ensures.gains (then c.push-str-3.ensures.gains c.push-number-4.ensures.gains))))) in
+    then total (then c.push_str.ensures.gains (then c.push_number-2.ensures.gains (then c.push_str-2.ensures.gains (then c.push_number-3.ensures.gains (then c.push_str-3.ensures.gains c.push_number-4.ensures.gains))))) in
     record { text = whole c.new-out.ensures.empty gains (front_short c.args.counts.now c.requires) }

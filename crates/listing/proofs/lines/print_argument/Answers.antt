@@ -8,7 +8,7 @@ returns-in-Push g c =
 
 pub returns-in-Finish : goal.returns-in-Finish
 returns-in-Finish g c =
-    let argued = finish_argued g.J.Job.form g.J.Job.outcome c.in-Finish.is c.push-in-Finish.ensures.gains c.print-outcome.ensures.prints in
+    let argued = finish_argued g.J.Job.form g.J.Job.outcome c.in-Finish.is c.push-in-Finish.ensures.gains c.print_outcome.ensures.prints in
     record { gains = argued.gains; short = argued.short }
 
 pub returns-in-default : goal.returns-in-default

@@ -6,6 +6,6 @@ use Rattle.listing.proofs.lines.refusal_text.Goals as goal
 pub returns : goal.returns
 returns c =
     let number = c.number.ensures.number in
-    let gains = then c.push-str.ensures.gains (then (same_piece (ap decimal number) c.push-number.ensures.gains) (then c.push-str-2.ensures.gains c.push-number-2.ensures.gains)) in
-    let short = refusal_short c.args.fault (subst (λ (n : ℕ). length (decimal n) ≤ 20) number c.push-number.ensures.short) c.push-number-2.ensures.short in
+    let gains = then c.push_str.ensures.gains (then (same_piece (ap decimal number) c.push_number.ensures.gains) (then c.push_str-2.ensures.gains c.push_number-2.ensures.gains)) in
+    let short = refusal_short c.args.fault (subst (λ (n : ℕ). length (decimal n) ≤ 20) number c.push_number.ensures.short) c.push_number-2.ensures.short in
     record { text = whole c.new-out.ensures.empty gains short }

@@ -11,9 +11,9 @@ returns-in-Direct g c =
     let start = start_of job outcome c.args.any c.args.settings in
     let all = left_in job outcome c.args.reader.now in
     let out = vec_items c.args.out.now in
-    let out' = vec_items c.run-on.new.out in
+    let out' = vec_items c.run_on.new.out in
     record {
-      prints = subst (λ k. Prints (lines_by (lands_in k) job outcome start 1 all.calls) all.fault out c.run-on.result out') (sym c.in-Direct.is) (ran_prints direct_lands job outcome _ direct_pins start all out c.run-on.result out' c.run-on.ensures.ran);
+      prints = subst (λ k. Prints (lines_by (lands_in k) job outcome start 1 all.calls) all.fault out c.run_on.result out') (sym c.in-Direct.is) (ran_prints direct_lands job outcome _ direct_pins start all out c.run_on.result out' c.run_on.ensures.ran);
     }
 
 pub returns-in-Queued : goal.returns-in-Queued
@@ -23,7 +23,7 @@ returns-in-Queued g c =
     let start = start_of job outcome c.args.any c.args.settings in
     let all = left_in job outcome c.args.reader.now in
     let out = vec_items c.args.out.now in
-    let out' = vec_items c.run-on-in-Queued.new.out in
+    let out' = vec_items c.run_on-in-Queued.new.out in
     record {
-      prints = subst (λ k. Prints (lines_by (lands_in k) job outcome start 1 all.calls) all.fault out c.run-on-in-Queued.result out') (sym c.in-Queued.is) (ran_prints queued_lands job outcome _ queued_pins start all out c.run-on-in-Queued.result out' c.run-on-in-Queued.ensures.ran);
+      prints = subst (λ k. Prints (lines_by (lands_in k) job outcome start 1 all.calls) all.fault out c.run_on-in-Queued.result out') (sym c.in-Queued.is) (ran_prints queued_lands job outcome _ queued_pins start all out c.run_on-in-Queued.result out' c.run_on-in-Queued.ensures.ran);
     }

@@ -9,8 +9,8 @@ loop-next-init g c = starts g.J.Job.form g.J.Job.outcome g.M.Memory.picks (shown
 
 pub returns-in-err-next : goal.returns-in-err-next
 returns-in-err-next g c =
-    let turned = err_from_is_err_and c.from-residual.result c.from-residual.ensures.1 in
-    record { ran = at_fault_as _ _ _ _ _ _ _ _ _ _ _ c.loop-next.invariant c.from-residual.result _ c.in-err-next.field-0.0 turned.1 turned.2 c.in-err-next.ensures.answer }
+    let turned = err_from_is_err_and c.from_residual.result c.from_residual.ensures.1 in
+    record { ran = at_fault_as _ _ _ _ _ _ _ _ _ _ _ c.loop-next.invariant c.from_residual.result _ c.in-err-next.field-0.0 turned.1 turned.2 c.in-err-next.ensures.answer }
 
 pub returns-in-default : goal.returns-in-default
 returns-in-default g c = record { ran = at_end _ _ _ _ _ _ _ _ _ _ _ c.loop-next.invariant _ c.in-default.not-Some c.in-ok-next.ensures.answer }
@@ -21,4 +21,4 @@ overflow-add-number g c = let few = few_calls _ _ _ _ _ _ _ _ _ _ _ c.loop-next.
 pub loop-next-preserved : goal.loop-next-preserved
 loop-next-preserved g c =
     let read = c.in-ok-next.ensures in
-    next_turn _ _ _ _ _ _ _ _ _ _ _ c.loop-next.invariant c.requires.new _ _ _ _ _ _ _ _ c.in-Some.is read.answer read.moves refl c.party.ensures.party c.call-reply.ensures.answers c.in-ok-put-line.ensures.puts
+    next_turn _ _ _ _ _ _ _ _ _ _ _ c.loop-next.invariant c.requires.new _ _ _ _ _ _ _ _ c.in-Some.is read.answer read.moves refl c.party.ensures.party c.call-reply.ensures.answers c.in-ok-put_line.ensures.puts

@@ -14,7 +14,7 @@ returns-in-Ok g c =
     let cells = c.args.cells.now in
     let steps = steps_so g.M.Memory.meaning g.M.Memory.picks b cells c.args.helper c.in-Some.aim c.in-Ok.attempt.reply _ c.if-cells-self.false c.in-Some.ensures.aim (c.in-Ok.ensures.attempts (take b.helpers b.table)) in
     record {
-      answers = written_so g.M.Memory.meaning g.M.Memory.picks b cells c.args.helper c.in-Ok.attempt.aim c.in-Ok.attempt.reply c.attempt.new.self c.attempt.new.cells c.set-aim.new.self c.set-aim.ensures.deque c.set-aim.ensures.table steps;
+      answers = written_so g.M.Memory.meaning g.M.Memory.picks b cells c.args.helper c.in-Ok.attempt.aim c.in-Ok.attempt.reply c.attempt.new.self c.attempt.new.cells c.set_aim.new.self c.set_aim.ensures.deque c.set_aim.ensures.table steps;
     }
 
 pub returns-in-Err : goal.returns-in-Err

@@ -9,6 +9,6 @@ pub returns-in-Helper : goal.returns-in-Helper
 returns-in-Helper c =
     let number = c.in-Helper.number in
     record {
-      gains = same_piece (sym (ap party_text c.in-Helper.is)) (then c.push-in-Helper.ensures.gains c.push-number.ensures.gains);
+      gains = same_piece (sym (ap party_text c.in-Helper.is)) (then c.push-in-Helper.ensures.gains c.push_number.ensures.gains);
       short = subst (λ (p : Party). length (party_text p) ≤ 4) (sym c.in-Helper.is) (omega (arith, length-decimal-le 3 number (omega arith) (omega arith) (omega arith)));
     }

@@ -5,5 +5,5 @@ pub returns : goal.returns
 returns g c = record {
   answer = c.advance.ensures.answer;
   moves = c.advance.ensures.moves;
-  reads-back = days_read_back _ _ g.met.J.Job.job_reads_back g.met.J.Job.outcome_reads_back;
+  reads_back = days_read_back _ _ g.met.J.Job.job_reads_back g.met.J.Job.outcome_reads_back;
 }

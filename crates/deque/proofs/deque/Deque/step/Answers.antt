@@ -19,4 +19,4 @@ returns-in-Closing g c =
 
 pub returns-in-Retiring : goal.returns-in-Retiring
 returns-in-Retiring g c =
-    record { does = step_by g.M.Memory.meaning g.M.Memory.picks c.args.self.now c.end-retire.result c.end-retire.new.self _ c.in-Retiring.is c.end-retire.ensures.does }
+    record { does = step_by g.M.Memory.meaning g.M.Memory.picks c.args.self.now c.end_retire.result c.end_retire.new.self _ c.in-Retiring.is c.end_retire.ensures.does }

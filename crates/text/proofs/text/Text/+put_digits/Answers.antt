@@ -9,7 +9,7 @@ returns t c =
     let last = c.put.ensures.gains in
     record {
       gains = elim c.if-number-ge10.branch [
-        | then-number-ge10 w ↦ decimal_then c.args.number (omega arith) (omega arith) w.put-digits.ensures.gains (same_start w.self-is last)
+        | then-number-ge10 w ↦ decimal_then c.args.number (omega arith) (omega arith) w.put_digits.ensures.gains (same_start w.self-is last)
         | else-number-ge10 w ↦ decimal_one c.args.number (omega arith) (same_start w.self-is last)
       ];
       short = length-decimal-le 20 c.args.number (omega arith) (omega arith) (omega arith);

@@ -11,7 +11,7 @@ returns c =
     let z = c.args.number in
     let same = to_z-of_z w64 z c.ranges.number in
     let sign = ap (λ n. lt_z n (pos 0)) (sym same) in
-    let digits = same_piece (ap decimal (c.unsigned-abs.ensures.value ∙ ap nat_abs same)) c.put-digits.ensures.gains in
+    let digits = same_piece (ap decimal (c.unsigned_abs.ensures.value ∙ ap nat_abs same)) c.put_digits.ensures.gains in
     record {
       gains = elim c.if-number-lt0.branch [
         | then-number-lt0 w ↦ minus_then z (sign ∙ w.if-number-lt0.true) w.put.ensures.gains (same_start w.self-is digits)
