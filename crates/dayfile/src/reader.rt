@@ -52,15 +52,15 @@ impl<'a> Reader<'a> {
 
     // Reads a later record, which asks something of the board, or finds the file's end.
     pub fn next<J: Job>(&mut self) -> Result<Option<Call<J, J::Outcome>>, FileFault>
-        ensures answer { result ≡ placed self.old.position (next_from form outcome (at_start self.old) (unread self.old)) }
+        ensures answer { result ≡ placed self.old.position (next_from J.form J.outcome (at_start self.old) (unread self.old)) }
         ensures moves { Moves self.old (gave result) self.new }
-        ensures reads_back { DaysReadBack form outcome }
+        ensures reads_back { DaysReadBack J.form J.outcome }
     {
         self.advance()
     }
 
     fn advance<J: Job>(&mut self) -> Result<Option<Call<J, J::Outcome>>, FileFault>
-        ensures answer { result ≡ placed self.old.position (next_from form outcome (at_start self.old) (unread self.old)) }
+        ensures answer { result ≡ placed self.old.position (next_from J.form J.outcome (at_start self.old) (unread self.old)) }
         ensures moves { Moves self.old (gave result) self.new }
     {
         let rest = rest_of(self.bytes, self.position);
@@ -160,7 +160,7 @@ fn settings_from(first: bool, rest: &[u8]) -> Result<Found<Settings>, FileRefusa
 }
 
 fn call_from<J: Job>(first: bool, rest: &[u8]) -> Result<Found<Call<J, J::Outcome>>, FileRefusal>
-    ensures call { Finds (call_from form outcome first rest.now) result rest.now }
+    ensures call { Finds (call_from J.form J.outcome first rest.now) result rest.now }
 {
     let raw = frame(first, rest)?;
     let what = call_of(raw.tag, raw.value)?;
@@ -198,7 +198,7 @@ fn settings_of(value: &[u8]) -> Result<Settings, FileRefusal>
 }
 
 fn call_of<J: Job>(tag: Tag, value: &[u8]) -> Result<Call<J, J::Outcome>, FileRefusal>
-    ensures call { result ≡ call_of form outcome tag value.now }
+    ensures call { result ≡ call_of J.form J.outcome tag value.now }
 {
     match (tag, value.len()) {
         (Tag::Board, _) => Err(FileRefusal::OutOfOrder),
@@ -214,7 +214,7 @@ fn call_of<J: Job>(tag: Tag, value: &[u8]) -> Result<Call<J, J::Outcome>, FileRe
 }
 
 fn push_of<J: Job>(value: &[u8]) -> Result<Call<J, J::Outcome>, FileRefusal>
-    ensures push { result ≡ pushed form outcome (form.decoded value.now) }
+    ensures push { result ≡ pushed J.form J.outcome (J.form.decoded value.now) }
 {
     let job = J::decode(value)?;
     Ok(Call::Push { job })
@@ -222,7 +222,7 @@ fn push_of<J: Job>(value: &[u8]) -> Result<Call<J, J::Outcome>, FileRefusal>
 
 fn finish_of<J: Job>(value: &[u8]) -> Result<Call<J, J::Outcome>, FileRefusal>
     requires { 0 < length value.now }
-    ensures finish { result ≡ finished form outcome (slice_index value.now 0) (outcome.decoded (drop 1 value.now)) }
+    ensures finish { result ≡ finished J.form J.outcome (slice_index value.now 0) (J.outcome.decoded (drop 1 value.now)) }
 {
     let (_, rest) = value.split_at(1);
     let outcome = J::decode_outcome(rest)?;

@@ -11,8 +11,8 @@ use text::Text;
 
 // What comes after an answer's word: its job, its outcome or its refusal's number.
 fn print_detail<J: Job>(answer: &Answer<J, J::Outcome>, out: &mut Text)
-    ensures gains { Gains out.old (detail form outcome answer.now) out.new }
-    ensures short { length (detail form outcome answer.now) ≤ 31 }
+    ensures gains { Gains out.old (detail J.form J.outcome answer.now) out.new }
+    ensures short { length (detail J.form J.outcome answer.now) ≤ 31 }
 {
     match answer {
         Answer::Work(job) | Answer::Taken(job) => {
@@ -32,8 +32,8 @@ fn print_detail<J: Job>(answer: &Answer<J, J::Outcome>, out: &mut Text)
 }
 
 fn line_text<J: Job>(number: u16, party: Party, reply: &Reply<J, J::Outcome>) -> Text
-    ensures text { content result ≡ line_of form outcome number party reply.now }
-    ensures fits { length (line_of form outcome number party reply.now) ≤ 80 }
+    ensures text { content result ≡ line_of J.form J.outcome number party reply.now }
+    ensures fits { length (line_of J.form J.outcome number party reply.now) ≤ 80 }
 {
     let mut out = Text::new();
     out.push_number(number as u64);
@@ -56,9 +56,9 @@ pub fn write_line<J: Job>(
     reply: &Reply<J, J::Outcome>,
     buffer: &mut [u8],
 ) -> Result<usize, LineFault>
-    ensures answer { result ≡ written (line_of form outcome number party reply.now) buffer.old }
-    ensures buffer { buffer.new ≡ buffer_after (line_of form outcome number party reply.now) buffer.old }
-    ensures fits { length (line_of form outcome number party reply.now) ≤ 80 }
+    ensures answer { result ≡ written (line_of J.form J.outcome number party reply.now) buffer.old }
+    ensures buffer { buffer.new ≡ buffer_after (line_of J.form J.outcome number party reply.now) buffer.old }
+    ensures fits { length (line_of J.form J.outcome number party reply.now) ≤ 80 }
 {
     let text = line_text::<J>(number, party, reply);
     if buffer.len() < Text::CAPACITY {

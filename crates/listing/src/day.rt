@@ -38,7 +38,7 @@ fn list_calls<J: Job>(reader: &mut Reader, out: &mut Vec<u8>) -> Result<(), Allo
     requires short { length (file_of reader.old) ≤ 61440 }
     requires started { 0 < reader.old.position }
     requires within { reader.old.position ≤ length (file_of reader.old) }
-    ensures lines { OnOk result (out.new.items ≡ out.old.items ++ lines_of form outcome nothing_yet (held form outcome (length (file_of reader.old)) reader.old.position (unread reader.old))) }
+    ensures lines { OnOk result (out.new.items ≡ out.old.items ++ lines_of J.form J.outcome nothing_yet (held J.form J.outcome (length (file_of reader.old)) reader.old.position (unread reader.old))) }
 {
     let mut counts = Counts::new();
     loop {

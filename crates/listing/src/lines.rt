@@ -44,8 +44,8 @@ pub(crate) fn board_text(settings: Settings) -> Text
 }
 
 fn print_argument<J: Job>(call: &Call<J, J::Outcome>, out: &mut Text)
-    ensures gains { Gains out.old (argument form outcome call.now) out.new }
-    ensures short { length (argument form outcome call.now) ≤ 31 }
+    ensures gains { Gains out.old (argument J.form J.outcome call.now) out.new }
+    ensures short { length (argument J.form J.outcome call.now) ≤ 31 }
 {
     match call {
         Call::Push { job } => {
@@ -61,7 +61,7 @@ fn print_argument<J: Job>(call: &Call<J, J::Outcome>, out: &mut Text)
 }
 
 pub(crate) fn call_text<J: Job>(number: u16, call: &Call<J, J::Outcome>) -> Text
-    ensures text { content result ≡ call_line form outcome number call.now }
+    ensures text { content result ≡ call_line J.form J.outcome number call.now }
 {
     let mut out = Text::new();
     out.push_number(number as u64);

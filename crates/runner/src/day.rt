@@ -53,7 +53,7 @@ fn run_on<M: Memory + Drop, J: Job>(
     requires few_cells { settings.size ≤ 1024 }
     requires some_helpers { 1 ≤ settings.helpers }
     requires few_helpers { settings.helpers ≤ 16 }
-    ensures ran { Ran form outcome picks (start_of form outcome any settings) (left_in form outcome reader.old) out.old.items result out.new.items }
+    ensures ran { Ran J.form J.outcome M.picks (start_of J.form J.outcome any settings) (left_in J.form J.outcome reader.old) out.old.items result out.new.items }
 {
     let mut cells = blank_cells(heap, settings.size, any)?;
     let mut board = Board::unmade(memory);
@@ -78,7 +78,7 @@ fn run_jobs<J: Job>(
     requires few_cells { settings.size ≤ 1024 }
     requires some_helpers { 1 ≤ settings.helpers }
     requires few_helpers { settings.helpers ≤ 16 }
-    ensures prints { Prints (day_on form outcome any settings (left_in form outcome reader.old)).lines (left_in form outcome reader.old).fault out.old.items result out.new.items }
+    ensures prints { Prints (day_on J.form J.outcome any settings (left_in J.form J.outcome reader.old)).lines (left_in J.form J.outcome reader.old).fault out.old.items result out.new.items }
 {
     match settings.memory {
         MemoryKind::Direct => run_on(heap, Direct::new(), any, settings, reader, out),

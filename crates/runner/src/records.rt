@@ -29,7 +29,7 @@ fn put_line<J: Job>(
     reply: &Reply<J, J::Outcome>,
     out: &mut Vec<u8>,
 ) -> Result<(), DayFault>
-    ensures puts { Puts (line (line_of form outcome number party reply.now)) out.old.items result out.new.items }
+    ensures puts { Puts (line (line_of J.form J.outcome number party reply.now)) out.old.items result out.new.items }
 {
     let mut buffer = [b'\n'; LINE];
     let length = match write_line::<J>(number, party, reply, &mut buffer) {
@@ -65,8 +65,8 @@ pub(crate) fn run_records<M: Memory, J: Job>(
     requires short { length (file_of reader.old) ≤ 61440 }
     requires started { 0 < reader.old.position }
     requires within { reader.old.position ≤ length (file_of reader.old) }
-    requires new { New (shown meaning board.old cells.old) }
-    ensures ran { Ran form outcome picks (shown meaning board.old cells.old) (held form outcome (length (file_of reader.old)) reader.old.position (unread reader.old)) out.old.items result out.new.items }
+    requires new { New (shown M.meaning board.old cells.old) }
+    ensures ran { Ran J.form J.outcome M.picks (shown M.meaning board.old cells.old) (held J.form J.outcome (length (file_of reader.old)) reader.old.position (unread reader.old)) out.old.items result out.new.items }
 {
     let mut number: u16 = 0;
     loop {

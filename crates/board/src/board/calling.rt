@@ -15,8 +15,8 @@ impl<M: Memory, J: Job> Board<M, J> {
         call: Call<J, J::Outcome>,
         cells: &mut [Cell<J, J::Outcome>],
     ) -> Reply<J, J::Outcome>
-        ensures answers { Answers meaning picks call self.old cells.old result self.new cells.new }
-        ensures law { KeepsTheLaw (shown meaning self.old) call cells.old result (shown meaning self.new) cells.new }
+        ensures answers { Answers M.meaning M.picks call self.old cells.old result self.new cells.new }
+        ensures law { KeepsTheLaw (shown M.meaning self.old) call cells.old result (shown M.meaning self.new) cells.new }
     {
         self.answer(call, cells)
     }
@@ -26,7 +26,7 @@ impl<M: Memory, J: Job> Board<M, J> {
         call: Call<J, J::Outcome>,
         cells: &mut [Cell<J, J::Outcome>],
     ) -> Reply<J, J::Outcome>
-        ensures answers { Answers meaning picks call self.old cells.old result self.new cells.new }
+        ensures answers { Answers M.meaning M.picks call self.old cells.old result self.new cells.new }
     {
         match call {
             Call::Push { job } => self.push(job, cells),

@@ -18,7 +18,7 @@ impl<M: Memory, J: Job> Board<M, J> {
         helper: u8,
         cells: &mut [Cell<J, J::Outcome>],
     ) -> Reply<J, J::Outcome>
-        ensures answers { Answers meaning picks (HelperStep helper) self.old cells.old result self.new cells.new }
+        ensures answers { Answers M.meaning M.picks (HelperStep helper) self.old cells.old result self.new cells.new }
     {
         if cells.len() != self.deque.owner.size as usize {
             return refused(Access::Step, Refusal::WrongCells);
@@ -42,7 +42,7 @@ impl<M: Memory, J: Job> Board<M, J> {
         outcome: J::Outcome,
         cells: &mut [Cell<J, J::Outcome>],
     ) -> Reply<J, J::Outcome>
-        ensures answers { Answers meaning picks (Finish helper outcome) self.old cells.old result self.new cells.new }
+        ensures answers { Answers M.meaning M.picks (Finish helper outcome) self.old cells.old result self.new cells.new }
     {
         if cells.len() != self.deque.owner.size as usize {
             return refused(Access::Finish, Refusal::WrongCells);

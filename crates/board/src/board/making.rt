@@ -17,7 +17,7 @@ const MOST_CELLS: u16 = 1_024;
 impl<M: Memory, J: Job> Board<M, J> {
     // A board that is not made yet: every call is refused, but for land.
     pub fn unmade(memory: M) -> Board<M, J>
-        ensures unmade { (cells : List (Cell J J.Outcome)) → shown meaning result cells ≡ unmade (meaning memory) cells }
+        ensures unmade { (cells : List (Cell J J.Outcome)) → shown M.meaning result cells ≡ unmade (M.meaning memory) cells }
     {
         Board {
             deque: Deque::new(memory),
@@ -28,8 +28,8 @@ impl<M: Memory, J: Job> Board<M, J> {
 
     pub fn make(&mut self, size: u16, helpers: u8) -> Result<(), Refusal>
         ensures answer { (cells : List (Cell J J.Outcome)) → result ≡ made_answer (making size helpers cells) }
-        ensures board { (cells : List (Cell J J.Outcome)) → shown meaning self.new cells ≡ made_board (making size helpers cells) (shown meaning self.old cells) }
-        ensures new { is_ok result ≡ true → (cells : List (Cell J J.Outcome)) → length cells ≡ size → New (shown meaning self.new cells) }
+        ensures board { (cells : List (Cell J J.Outcome)) → shown M.meaning self.new cells ≡ made_board (making size helpers cells) (shown M.meaning self.old cells) }
+        ensures new { is_ok result ≡ true → (cells : List (Cell J J.Outcome)) → length cells ≡ size → New (shown M.meaning self.new cells) }
     {
         if size < 1 || size > MOST_CELLS {
             return Err(Refusal::WrongSize);

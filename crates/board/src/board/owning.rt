@@ -12,7 +12,7 @@ use model::{Access, Answer, Cell, Refusal, Reply};
 
 impl<M: Memory, J: Job> Board<M, J> {
     pub fn push(&mut self, job: J, cells: &mut [Cell<J, J::Outcome>]) -> Reply<J, J::Outcome>
-        ensures answers { Answers meaning picks (Push job) self.old cells.old result self.new cells.new }
+        ensures answers { Answers M.meaning M.picks (Push job) self.old cells.old result self.new cells.new }
     {
         if cells.len() != self.deque.owner.size as usize {
             return refused(Access::Push, Refusal::WrongCells);
@@ -21,7 +21,7 @@ impl<M: Memory, J: Job> Board<M, J> {
     }
 
     pub fn pop(&mut self, cells: &[Cell<J, J::Outcome>]) -> Reply<J, J::Outcome>
-        ensures answers { Answers meaning picks Pop self.old cells.now result self.new cells.now }
+        ensures answers { Answers M.meaning M.picks Pop self.old cells.now result self.new cells.now }
     {
         if cells.len() != self.deque.owner.size as usize {
             return refused(Access::Pop, Refusal::WrongCells);
@@ -30,7 +30,7 @@ impl<M: Memory, J: Job> Board<M, J> {
     }
 
     pub fn retire(&mut self, cells: &[Cell<J, J::Outcome>]) -> Reply<J, J::Outcome>
-        ensures answers { Answers meaning picks Retire self.old cells.now result self.new cells.now }
+        ensures answers { Answers M.meaning M.picks Retire self.old cells.now result self.new cells.now }
     {
         if cells.len() != self.deque.owner.size as usize {
             return refused(Access::Retire, Refusal::WrongCells);
@@ -39,7 +39,7 @@ impl<M: Memory, J: Job> Board<M, J> {
     }
 
     pub fn owner_step(&mut self, cells: &[Cell<J, J::Outcome>]) -> Reply<J, J::Outcome>
-        ensures answers { Answers meaning picks OwnerStep self.old cells.now result self.new cells.now }
+        ensures answers { Answers M.meaning M.picks OwnerStep self.old cells.now result self.new cells.now }
     {
         if cells.len() != self.deque.owner.size as usize {
             return refused(Access::Step, Refusal::WrongCells);
@@ -49,7 +49,7 @@ impl<M: Memory, J: Job> Board<M, J> {
 
     // Time passes: waiting writes land.
     pub fn land(&mut self) -> Reply<J, J::Outcome>
-        ensures answers { (cells : List (Cell J J.Outcome)) → Answers meaning picks Land self.old cells result self.new cells }
+        ensures answers { (cells : List (Cell J J.Outcome)) → Answers M.meaning M.picks Land self.old cells result self.new cells }
     {
         let landed = self.deque.memory.land();
         reply(Access::Land, landed, Answer::Going)

@@ -19,7 +19,7 @@ impl<M: Memory, J: Copy, O: Copy> Deque<M, J, O> {
         aim: Aim,
         cells: &mut [Cell<J, O>],
     ) -> Result<Attempt<J, O>, Refusal>
-        ensures attempts { (helpers : List Helper) → Attempts meaning picks helper aim self.old cells.old result self.new cells.new helpers }
+        ensures attempts { (helpers : List Helper) → Attempts M.meaning M.picks helper aim self.old cells.old result self.new cells.new helpers }
         ensures owner { self.new.owner ≡ self.old.owner }
     {
         match aim {
@@ -47,7 +47,7 @@ impl<M: Memory, J: Copy, O: Copy> Deque<M, J, O> {
 
     // Reads the pair, and aims at the oldest job that is shared, if any is.
     fn look(&mut self) -> Result<Attempt<J, O>, Refusal>
-        ensures attempts { (helper : ℕ) (cells : List (Cell J O)) (helpers : List Helper) → Attempts meaning picks helper aim_at.ReadPair self.old cells result self.new cells helpers }
+        ensures attempts { (helper : ℕ) (cells : List (Cell J O)) (helpers : List Helper) → Attempts M.meaning M.picks helper aim_at.ReadPair self.old cells result self.new cells helpers }
         ensures owner { self.new.owner ≡ self.old.owner }
     {
         let (tail, split) = self.memory.helper_pair();
@@ -67,7 +67,7 @@ impl<M: Memory, J: Copy, O: Copy> Deque<M, J, O> {
         pair: (u16, u16),
         cells: &mut [Cell<J, O>],
     ) -> Result<Attempt<J, O>, Refusal>
-        ensures attempts { (helpers : List Helper) → Attempts meaning picks helper (aim_at.Swap pair) self.old cells.old result self.new cells.new helpers }
+        ensures attempts { (helpers : List Helper) → Attempts M.meaning M.picks helper (aim_at.Swap pair) self.old cells.old result self.new cells.new helpers }
         ensures owner { self.new.owner ≡ self.old.owner }
     {
         let (tail, split) = pair;

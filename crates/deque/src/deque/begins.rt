@@ -21,7 +21,7 @@ fn is_idle<J, O>(phase: &Phase<J, O>) -> bool
 
 impl<M: Memory, J: Copy, O: Copy> Deque<M, J, O> {
     pub fn push(&mut self, job: J, cells: &mut [Cell<J, O>]) -> Reply<J, O>
-        ensures begins { Begins meaning picks (λ s. push s job) self.old cells.old result self.new cells.new }
+        ensures begins { Begins M.meaning M.picks (λ s. push s job) self.old cells.old result self.new cells.new }
     {
         if !is_idle(&self.owner.phase) {
             return refused(Access::Push, Refusal::Busy);
@@ -40,7 +40,7 @@ impl<M: Memory, J: Copy, O: Copy> Deque<M, J, O> {
     }
 
     pub fn pop(&mut self, cells: &[Cell<J, O>]) -> Reply<J, O>
-        ensures begins { Begins meaning picks (λ s. pop s) self.old cells.now result self.new cells.now }
+        ensures begins { Begins M.meaning M.picks (λ s. pop s) self.old cells.now result self.new cells.now }
     {
         if !is_idle(&self.owner.phase) {
             return refused(Access::Pop, Refusal::Busy);
@@ -61,7 +61,7 @@ impl<M: Memory, J: Copy, O: Copy> Deque<M, J, O> {
     }
 
     pub fn retire(&mut self, cells: &[Cell<J, O>]) -> Reply<J, O>
-        ensures begins { Begins meaning picks (λ s. retire s) self.old cells.now result self.new cells.now }
+        ensures begins { Begins M.meaning M.picks (λ s. retire s) self.old cells.now result self.new cells.now }
     {
         if !is_idle(&self.owner.phase) {
             return refused(Access::Retire, Refusal::Busy);

@@ -33,7 +33,7 @@ impl<M: Memory, J: Copy, O: Copy> Deque<M, J, O> {
 
     // Makes it empty, with so many positions: nothing waits, and nothing is there to steal.
     pub fn clear(&mut self, size: u16)
-        ensures memory { meaning self.new.memory ≡ nothing_shared }
+        ensures memory { M.meaning self.new.memory ≡ nothing_shared }
         ensures owner { self.new.owner ≡ new_owner size }
     {
         let _ = self.memory.fence();

@@ -12,7 +12,7 @@ use model::{Access, Answer, Ending, Open, Owner, Phase, Refusal, Reply, Share, S
 
 impl<M: Memory, J: Copy, O: Copy> Deque<M, J, O> {
     pub fn step(&mut self) -> Reply<J, O>
-        ensures does { OwnerDoes meaning picks (λ s. owner_step s) self.old result self.new }
+        ensures does { OwnerDoes M.meaning M.picks (λ s. owner_step s) self.old result self.new }
     {
         match self.owner.phase {
             Phase::Idle => refused(Access::Step, Refusal::NothingBegun),
@@ -26,7 +26,7 @@ impl<M: Memory, J: Copy, O: Copy> Deque<M, J, O> {
 
     // A push onto a board with nothing to steal: the pair shows the job, and the flag calls the helpers.
     fn open(&mut self, at: Open) -> Reply<J, O>
-        ensures does { OwnerDoes meaning picks (λ s. owner_step_at s (Opening at)) self.old result self.new }
+        ensures does { OwnerDoes M.meaning M.picks (λ s. owner_step_at s (Opening at)) self.old result self.new }
     {
         match at {
             Open::WritePair => {
@@ -58,7 +58,7 @@ impl<M: Memory, J: Copy, O: Copy> Deque<M, J, O> {
 
     // Where a helper has asked for more, half of the private jobs are shared.
     fn share(&mut self, at: Share, ending: Ending<J>) -> Reply<J, O>
-        ensures does { OwnerDoes meaning picks (λ s. owner_step_at s (Sharing at ending)) self.old result self.new }
+        ensures does { OwnerDoes M.meaning M.picks (λ s. owner_step_at s (Sharing at ending)) self.old result self.new }
     {
         match at {
             Share::ReadRequest => {
@@ -85,7 +85,7 @@ impl<M: Memory, J: Copy, O: Copy> Deque<M, J, O> {
     }
 
     fn shrink(&mut self, at: Shrink, job: J) -> Reply<J, O>
-        ensures does { OwnerDoes meaning picks (λ s. owner_step_at s (Shrinking at job)) self.old result self.new }
+        ensures does { OwnerDoes M.meaning M.picks (λ s. owner_step_at s (Shrinking at job)) self.old result self.new }
     {
         match at {
             Shrink::ReadPair => self.read_pair(job),
@@ -112,7 +112,7 @@ impl<M: Memory, J: Copy, O: Copy> Deque<M, J, O> {
 
     // The pair as the owner reads it: what is not stolen of it will be split anew.
     fn read_pair(&mut self, job: J) -> Reply<J, O>
-        ensures does { OwnerDoes meaning picks (λ s. owner_step_at s (Shrinking shrink_at.ReadPair job)) self.old result self.new }
+        ensures does { OwnerDoes M.meaning M.picks (λ s. owner_step_at s (Shrinking shrink_at.ReadPair job)) self.old result self.new }
     {
         let (tail, split) = self.memory.owner_pair();
         if tail < self.owner.told || split < tail || split != self.owner.own_split {
@@ -128,7 +128,7 @@ impl<M: Memory, J: Copy, O: Copy> Deque<M, J, O> {
 
     // The tail after the fence: no helper can take a job beyond the new split any more.
     fn read_tail(&mut self, tail: u16, split: u16, job: J) -> Reply<J, O>
-        ensures does { OwnerDoes meaning picks (λ s. owner_step_at s (Shrinking (shrink_at.ReadTail tail split) job)) self.old result self.new }
+        ensures does { OwnerDoes M.meaning M.picks (λ s. owner_step_at s (Shrinking (shrink_at.ReadTail tail split) job)) self.old result self.new }
     {
         let now_tail = self.memory.owner_tail();
         if now_tail < tail || split < now_tail {
@@ -150,7 +150,7 @@ impl<M: Memory, J: Copy, O: Copy> Deque<M, J, O> {
 
     // All jobs are stolen.
     fn close(&mut self) -> Reply<J, O>
-        ensures does { OwnerDoes meaning picks (λ s. owner_step_at s Closing) self.old result self.new }
+        ensures does { OwnerDoes M.meaning M.picks (λ s. owner_step_at s Closing) self.old result self.new }
     {
         self.owner.own_flag = true;
         self.owner.told = self.owner.head;
@@ -160,7 +160,7 @@ impl<M: Memory, J: Copy, O: Copy> Deque<M, J, O> {
     }
 
     fn end_retire(&mut self, outcome: O) -> Reply<J, O>
-        ensures does { OwnerDoes meaning picks (λ s. owner_step_at s (Retiring outcome)) self.old result self.new }
+        ensures does { OwnerDoes M.meaning M.picks (λ s. owner_step_at s (Retiring outcome)) self.old result self.new }
     {
         self.owner.phase = Phase::Idle;
         let landed = self.memory.write(Write::Flag(true));
