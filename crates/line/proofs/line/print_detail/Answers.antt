@@ -16,8 +16,8 @@ returns-in-Refused g c =
     let detailed = refused_detailed g.J.Job.form g.J.Job.outcome c.in-Refused.is c.number.ensures.number c.push-in-Refused.ensures.gains c.push_number.ensures.gains c.push_number.ensures.short in
     record { gains = detailed.gains; short = detailed.short }
 
-pub returns-in-default : goal.returns-in-default
-returns-in-default g c =
-    let not = c.in-default in
+pub returns-in_default : goal.returns-in_default
+returns-in_default g c =
+    let not = c.in_default in
     let detailed = other_detailed g.J.Job.form g.J.Job.outcome c.args.out.now c.args.answer.now not.not-Work not.not-Taken not.not-Retired not.not-Refused in
     record { gains = detailed.gains; short = detailed.short }

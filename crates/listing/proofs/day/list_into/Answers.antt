@@ -8,27 +8,27 @@ pub returns-in-Err : goal.returns-in-Err
 returns-in-Err c =
     let new = c.new-reader.ensures in
     record {
-      listing = refused_whole _ c.new-reader.result new.file new.start _ _ _ _ c.in-Err.ensures.answer c.refusal_text.ensures.text c.in-ok-put_line.ensures.line;
+      listing = refused_whole _ c.new-reader.result new.file new.start _ _ _ _ c.in-Err.ensures.answer c.refusal_text.ensures.text c.in_ok-put_line-in-Err.ensures.line;
     }
 
-pub returns-in-ok-list_calls : goal.returns-in-ok-list_calls
-returns-in-ok-list_calls c =
+pub returns-in_ok-list_calls-in-Cards : goal.returns-in_ok-list_calls-in-Cards
+returns-in_ok-list_calls-in-Cards c =
     let r = c.new-reader.result in
     let r' = c.board.new.self in
     let new = c.new-reader.ensures in
     let read = c.in-Ok.ensures in
     let calls = calls_here _ r new.file new.start _ r' read.answer read.moves card_form balance_form in
     record {
-      listing = board_whole _ r new.file new.start _ r' read.answer read.moves Cards _ _ _ _ _ c.in-Cards.is c.board_text.ensures.text c.in-ok-put_line-2.ensures.line calls c.in-ok-list_calls.ensures.lines;
+      listing = board_whole _ r new.file new.start _ r' read.answer read.moves Cards _ _ _ _ _ c.in-Cards.is c.board_text.ensures.text c.in_ok-put_line.ensures.line calls c.in_ok-list_calls-in-Cards.ensures.lines;
     }
 
-pub returns-in-ok-list_calls-2 : goal.returns-in-ok-list_calls-2
-returns-in-ok-list_calls-2 c =
+pub returns-in_ok-list_calls-in-Labels : goal.returns-in_ok-list_calls-in-Labels
+returns-in_ok-list_calls-in-Labels c =
     let r = c.new-reader.result in
     let r' = c.board.new.self in
     let new = c.new-reader.ensures in
     let read = c.in-Ok.ensures in
     let calls = calls_here _ r new.file new.start _ r' read.answer read.moves label_form printed_form in
     record {
-      listing = board_whole _ r new.file new.start _ r' read.answer read.moves Labels _ _ _ _ _ c.in-Labels.is c.board_text.ensures.text c.in-ok-put_line-2.ensures.line calls c.in-ok-list_calls-2.ensures.lines;
+      listing = board_whole _ r new.file new.start _ r' read.answer read.moves Labels _ _ _ _ _ c.in-Labels.is c.board_text.ensures.text c.in_ok-put_line.ensures.line calls c.in_ok-list_calls-in-Labels.ensures.lines;
     }

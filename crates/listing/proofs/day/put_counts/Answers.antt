@@ -6,5 +6,5 @@ pub returns : goal.returns
 returns c =
     let front = c.as_bytes.ensures.content ∙ c.closing_front_text.ensures.text in
     record {
-      line = two_parts _ _ _ _ _ _ _ c.in-ok-extend_from_slice.ensures.items front c.in-ok-put_line.ensures.line c.closing_back_text.ensures.text;
+      line = two_parts _ _ _ _ _ _ _ c.in_ok-extend_from_slice.ensures.items front c.in_ok-put_line.ensures.line c.closing_back_text.ensures.text;
     }

@@ -11,7 +11,7 @@ returns-in-Finish g c =
     let argued = finish_argued g.J.Job.form g.J.Job.outcome c.in-Finish.is c.push-in-Finish.ensures.gains c.print_outcome.ensures.prints in
     record { gains = argued.gains; short = argued.short }
 
-pub returns-in-default : goal.returns-in-default
-returns-in-default g c =
-    let argued = other_argued g.J.Job.form g.J.Job.outcome c.args.out.now c.args.call.now c.in-default.not-Push c.in-default.not-Finish in
+pub returns-in_default : goal.returns-in_default
+returns-in_default g c =
+    let argued = other_argued g.J.Job.form g.J.Job.outcome c.args.out.now c.args.call.now c.in_default.not-Push c.in_default.not-Finish in
     record { gains = argued.gains; short = argued.short }

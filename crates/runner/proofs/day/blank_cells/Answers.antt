@@ -6,4 +6,4 @@ use Rattle.runner.proofs.day.blank_cells.Goals as goal
 pub loop-preserved : goal.loop-preserved
 loop-preserved g c =
     let cell = blank c.args.job in
-    c.in-ok-push.ensures.items ∙ ap (λ l. l ++ cell ∷ []) c.loop.invariant ∙ replicate_more c.loop.counter cell
+    c.in_ok-push.ensures.items ∙ ap (λ l. l ++ cell ∷ []) c.loop.invariant ∙ replicate_more c.loop.counter cell

@@ -9,5 +9,5 @@ returns g c =
     let wrote = c.in-Ok.ensures in
     let whole : (c.in-Ok.length + 1) - 0 ≡ c.in-Ok.length + 1 = omega arith in
     record {
-      puts = put_so (vec_items c.args.out.now) (vec_items c.extend_from_slice.new.self) _ c.write_line.new.buffer line c.in-Ok.length c.in-ok-extend_from_slice.ensures.items (ap (λ (k : ℕ). take k c.write_line.new.buffer) whole) wrote.buffer wrote.answer wrote.fits;
+      puts = put_so (vec_items c.args.out.now) (vec_items c.extend_from_slice.new.self) _ c.write_line.new.buffer line c.in-Ok.length c.in_ok-extend_from_slice.ensures.items (ap (λ (k : ℕ). take k c.write_line.new.buffer) whole) wrote.buffer wrote.answer wrote.fits;
     }

@@ -5,8 +5,8 @@ use Rattle.deque.specs.Doing.{board_of, refusal_reply}
 use Rattle.board.proofs.Helped.{steps_so, written_so, told_so, same_owner}
 use Rattle.board.proofs.board.Board.helper_step.Goals as goal
 
-pub invariant-of-self : goal.invariant-of-self
-invariant-of-self g c = same_owner g.M.Memory.meaning g.M.Memory.picks c.args.self.now c.args.cells.now c.attempt.new.self.owner c.attempt.ensures.owner
+pub invariant_of-self : goal.invariant_of-self
+invariant_of-self g c = same_owner g.M.Memory.meaning g.M.Memory.picks c.args.self.now c.args.cells.now c.attempt.new.self.owner c.attempt.ensures.owner
 
 pub returns-in-Ok : goal.returns-in-Ok
 returns-in-Ok g c =

@@ -6,8 +6,8 @@ use Rattle.board.proofs.Kept.{facts}
 use Rattle.board.proofs.Made.{new_sound, making_made, made_so, is_new}
 use Rattle.board.proofs.board.Board.make.Goals as goal
 
-pub invariant-of-self : goal.invariant-of-self
-invariant-of-self g c =
+pub invariant_of-self : goal.invariant_of-self
+invariant_of-self g c =
     facts c.clear.new.self.owner c.args.helpers (replicate 16 (record { aim = ReadFlag })) refl (omega arith) (new_sound c.clear.new.self.owner c.args.size c.clear.ensures.owner)
 
 pub returns : goal.returns

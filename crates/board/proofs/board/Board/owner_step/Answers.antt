@@ -6,8 +6,8 @@ use Rattle.board.specs.Shown.{shown}
 use Rattle.board.proofs.Kept.{with_own_cells, owner_keeps}
 use Rattle.board.proofs.board.Board.owner_step.Goals as goal
 
-pub invariant-of-self : goal.invariant-of-self
-invariant-of-self g c =
+pub invariant_of-self : goal.invariant_of-self
+invariant_of-self g c =
     let b = c.args.self.now in
     let cells = c.args.cells.now in
     let e = owner_step (shown g.M.Memory.meaning b cells) in
