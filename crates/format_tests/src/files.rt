@@ -35,7 +35,8 @@ fn too_long(rt: HostRuntime) -> Result<(), Fail> {
     let longest = vec![in rt.alloc(); 0u8; 61_440]?;
     labels(&rt, longest.as_slice(), 3, 0)?;
     let longer = vec![in rt.alloc(); 0u8; 61_441]?;
-    labels(&rt, longer.as_slice(), 1, 0).note("the length comes before the tag")
+    // The length comes before the tag.
+    labels(&rt, longer.as_slice(), 1, 0)
 }
 
 #[test]
@@ -112,16 +113,22 @@ fn unknown_action(rt: HostRuntime) -> Result<(), Fail> {
 
 #[test]
 fn the_first_of_two_refusals(rt: HostRuntime) -> Result<(), Fail> {
-    labels(&rt, &[9, 0, 1], 2, 0).note("a bad tag, cut short")?;
-    labels(&rt, &[9, 0, 0], 3, 0).note("a bad tag, first")?;
-    labels(&rt, &[3, 0, 1, 7], 4, 0).note("a pop of a wrong length, first")?;
-    labels(&rt, &[1, 0, 5, 0, 2, 1, 0, 1, 1, 0, 0], 4, 8).note("a second board of a wrong length")?;
-    labels(&rt, &[1, 0, 4, 0, 0, 0, 2], 5, 0).note("a board of a wrong length and size")?;
-    labels(&rt, &[1, 0, 5, 0, 0, 0, 2, 2], 6, 0).note("all of a board is wrong")?;
-    labels(&rt, &[1, 0, 5, 0, 1, 0, 2, 2], 7, 0).note("all of a board but its size")?;
-    cards(&rt, &[1, 0, 5, 0, 2, 1, 0, 0, 2, 0, 1, 9], 5, 8).note(
-        "a push of a wrong length and action",
-    )
+    // A bad tag, cut short.
+    labels(&rt, &[9, 0, 1], 2, 0)?;
+    // A bad tag, first.
+    labels(&rt, &[9, 0, 0], 3, 0)?;
+    // A pop of a wrong length, first.
+    labels(&rt, &[3, 0, 1, 7], 4, 0)?;
+    // A second board of a wrong length.
+    labels(&rt, &[1, 0, 5, 0, 2, 1, 0, 1, 1, 0, 0], 4, 8)?;
+    // A board of a wrong length and size.
+    labels(&rt, &[1, 0, 4, 0, 0, 0, 2], 5, 0)?;
+    // All of a board is wrong.
+    labels(&rt, &[1, 0, 5, 0, 0, 0, 2, 2], 6, 0)?;
+    // All of a board but its size.
+    labels(&rt, &[1, 0, 5, 0, 1, 0, 2, 2], 7, 0)?;
+    // A push of a wrong length and action.
+    cards(&rt, &[1, 0, 5, 0, 2, 1, 0, 0, 2, 0, 1, 9], 5, 8)
 }
 
 // Fifteen calls on a board of size 2: push, two steps, two of helper 1's, a step, pop, a step, one of helper 1's, four

@@ -132,7 +132,7 @@ fn a_listing_ends_at_the_refused_record(rt: HostRuntime) -> Result<(), Fail> {
     let lines = list_day(rt.alloc(), &day)?;
     assert!(rt;
         lines.as_slice()
-            == b"board size 2 helpers 16 memory queued jobs cards\n1 H16 finish -2147483648\n2 M land\nrefused 3 at 19\n"
+            == b"board size 2 helpers 16 memory queued jobs cards\n1 H16 finish -2147483648\n2 M land\nrefused 3 at 19\n".as_slice()
     );
     Ok(())
 }
@@ -140,6 +140,6 @@ fn a_listing_ends_at_the_refused_record(rt: HostRuntime) -> Result<(), Fail> {
 #[test]
 fn an_empty_file_is_refused(rt: HostRuntime) -> Result<(), Fail> {
     let lines = list_day(rt.alloc(), &[])?;
-    assert!(rt; lines.as_slice() == b"refused 2 at 0\n");
+    assert!(rt; lines.as_slice() == b"refused 2 at 0\n".as_slice());
     Ok(())
 }
