@@ -1,9 +1,9 @@
 -- The board's record, and the reader once it has read it. Assumes nothing.
-use Rattle.std.proofs.Common.{◌≡◌, ℕ, ◌+◌, ◌≤◌, Bool, true, false, not, ◌||◌, eqb, ltb, List, length, get_or, drop, Some, None, Ok, Err, Option, Result, sym, refl, ap, ◌∙◌, zero-add, arith, ltb-false}
+use Rattle.std.proofs.Common.{◌≡◌, ℕ, ◌+◌, ◌≤◌, Bool, true, false, not, ◌||◌, eqb, ltb, List, length, get_or, drop, Some, None, Ok, Option, Result, refl, ap, ◌∙◌, zero-add, arith, ltb-false}
 use Rattle.jobs.specs.Bytes.{u16_at}
 use Rattle.jobs.specs.Form.{Form}
 use Rattle.dayfile.specs.Format.{refuse_if, outside, frame_fault, unless, tag_byte, record_length, value_bytes, memory_kind, job_kind, settings_of, settings_from}
-use Rattle.dayfile.specs.Holding.{Held, held}
+use Rattle.dayfile.specs.Holding.{held}
 use Rattle.dayfile.specs.Reading.{file_of, at_start, unread, Moves}
 use Rattle.dayfile.specs.declared.fault.FileRefusal.{FileRefusal}
 use Rattle.dayfile.specs.declared.fault.FileRefusal.TheVariants.{OutOfOrder, WrongLength, WrongSize, WrongHelpers, UnknownKind}

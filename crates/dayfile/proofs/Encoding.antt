@@ -1,5 +1,5 @@
 -- A day is read as it was written. Assumes nothing.
-use Rattle.std.proofs.Common.{◌≡◌, ℕ, suc, ◌+◌, ◌*◌, ◌/◌, ◌%◌, ◌<◌, ◌≤◌, Bool, true, false, cond, not, ◌&&◌, ◌||◌, T, eqb, ltb, List, [], ◌∷◌, ◌++◌, length, get_or, take, drop, Some, None, Ok, Err, Option, sym, refl, ap, ◌∙◌, subst, arith, ltb→lt, length-append, rules, eq-eqb}
+use Rattle.std.proofs.Common.{◌≡◌, ℕ, suc, ◌+◌, ◌<◌, ◌≤◌, Bool, true, false, cond, not, ◌&&◌, T, eqb, ltb, List, [], ◌∷◌, ◌++◌, length, take, drop, Some, None, Ok, Err, sym, refl, ap, ◌∙◌, subst, arith, ltb→lt, length-append, eq-eqb}
 use Rattle.std.proofs.ByRecursion.{All-append}
 use Rattle.std.proofs.lemmas.List.{take_at, drop_at}
 use Rattle.std.specs.List.{flat_map, AllByRecursion as All}
@@ -8,7 +8,7 @@ use Rattle.calls.specs.declared.call.Call.TheVariants.{Push, Pop, Retire, OwnerS
 use Rattle.jobs.specs.Bytes.{u16_bytes}
 use Rattle.jobs.specs.Form.{Form, ReadsBack}
 use Rattle.dayfile.specs.Format.{frame_fault, unless, some, value_length, value_bytes, record_length, tag_of, pushed, finished, call_of, call_from, next_from, settings_from}
-use Rattle.dayfile.specs.Encoding.{record_bytes, memory_byte, job_byte, settings_bytes, settings_fit, call_bytes, call_fits, day_bytes, Reads, ReadAsWritten, DaysReadBack}
+use Rattle.dayfile.specs.Encoding.{record_bytes, memory_byte, job_byte, settings_bytes, settings_fit, call_bytes, call_fits, Reads, DaysReadBack}
 use Rattle.dayfile.specs.declared.fault.FileRefusal.TheVariants.{WrongLength}
 use Rattle.dayfile.specs.declared.settings.JobKind.{JobKind}
 use Rattle.dayfile.specs.declared.settings.JobKind.TheVariants.{Cards, Labels}

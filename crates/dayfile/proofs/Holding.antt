@@ -1,12 +1,12 @@
 -- A file from which calls are read one after another holds just those calls. Assumes nothing.
-use Rattle.std.proofs.Common.{◌≡◌, ℕ, zero, suc, ◌+◌, ◌<◌, ◌≤◌, List, [], ◌∷◌, ◌++◌, length, drop, None, ap, ◌∙◌, arith, length-append}
+use Rattle.std.proofs.Common.{◌≡◌, ℕ, zero, suc, ◌+◌, ◌<◌, ◌≤◌, List, [], ◌∷◌, length, drop, None, ap, ◌∙◌, arith, length-append}
 use Rattle.std.specs.List.{flat_map}
 use Rattle.calls.specs.declared.call.Call.{Call}
 use Rattle.calls.specs.declared.call.Call.TheVariants.{Push, Pop, Retire, OwnerStep, HelperStep, Finish, Land}
 use Rattle.jobs.specs.Form.{Form}
 use Rattle.dayfile.specs.Encoding.{call_bytes, Reads}
 use Rattle.dayfile.specs.Format.{record_length}
-use Rattle.dayfile.specs.Holding.{Held, and_then, ended, held}
+use Rattle.dayfile.specs.Holding.{and_then, ended, held}
 
 module _ {J O : Type 0} (job : Form J) (outcome : Form O) where
   pub reads_held : (calls : List (Call J O)) (rest : List ℕ) (turns place : ℕ) → Reads job outcome rest calls → length calls < turns → held job outcome turns place rest ≡ record { calls = calls; fault = None }

@@ -1,5 +1,5 @@
 -- The day file's format: what the record at a place says, or the first rule that it breaks. Assumes nothing.
-use Rattle.std.specs.Prelude.{ℕ, ◌+◌, Bool, true, false, cond, not, ◌&&◌, ◌||◌, List, length, take, drop, Some, None, Ok, Err, Option, Result, ◌==◌, nat_lt, slice_index}
+use Rattle.std.specs.Prelude.{ℕ, ◌+◌, Bool, cond, not, ◌&&◌, ◌||◌, List, length, take, drop, Some, None, Ok, Err, Option, Result, ◌==◌, nat_lt, slice_index}
 use Rattle.calls.specs.declared.call.Call.{Call}
 use Rattle.calls.specs.declared.call.Call.TheVariants.{Push, Pop, Retire, OwnerStep, HelperStep, Finish, Land}
 use Rattle.jobs.specs.Bytes.{u16_at}
@@ -8,7 +8,7 @@ use Rattle.jobs.specs.declared.fault.JobFault.{JobFault}
 use Rattle.dayfile.specs.Faults.{refusal_of}
 use Rattle.dayfile.specs.declared.fault.FileFault.{FileFault}
 use Rattle.dayfile.specs.declared.fault.FileRefusal.{FileRefusal}
-use Rattle.dayfile.specs.declared.fault.FileRefusal.TheVariants.{TooLong, CutShort, UnknownTag, OutOfOrder, WrongLength, WrongSize, WrongHelpers, UnknownKind, UnknownAction}
+use Rattle.dayfile.specs.declared.fault.FileRefusal.TheVariants.{TooLong, CutShort, UnknownTag, OutOfOrder, WrongLength, WrongSize, WrongHelpers, UnknownKind}
 use Rattle.dayfile.specs.declared.settings.JobKind.{JobKind}
 use Rattle.dayfile.specs.declared.settings.JobKind.TheVariants.{Cards, Labels}
 use Rattle.dayfile.specs.declared.settings.MemoryKind.{MemoryKind}

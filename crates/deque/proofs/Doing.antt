@@ -1,5 +1,5 @@
 -- A step is what its phase makes of it. Assumes nothing.
-use Rattle.std.proofs.Common.{◌≡◌, ℕ, List, sym, subst}
+use Rattle.std.proofs.Common.{◌≡◌, ℕ, sym, subst}
 use Rattle.memory.specs.Meaning as memory
 use Rattle.model.specs.Owning.{owner_step, owner_step_at}
 use Rattle.model.specs.declared.owner.Phase.{Phase}

@@ -1,5 +1,5 @@
 -- What the code reads and writes at an index, by what stands at that position. Assumes nothing.
-use Rattle.std.proofs.Common.{◌≡◌, ℕ, zero, suc, ◌-◌, ◌<◌, ◌≤◌, List, [], ◌∷◌, length, get_or, take, set, Some, None, Option, sym, refl, ap, ◌∙◌, arith, length-take}
+use Rattle.std.proofs.Common.{◌≡◌, ℕ, zero, suc, ◌-◌, ◌<◌, ◌≤◌, List, [], ◌∷◌, length, get_or, take, set, Some, None, sym, refl, ap, ◌∙◌, arith, length-take}
 use Rattle.model.specs.Places.{at, at_number, changed}
 use Rattle.model.proofs.Entries.{number_of, take_at}
 

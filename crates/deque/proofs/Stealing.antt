@@ -1,5 +1,5 @@
 -- What a swap comes to: it finds no cell, it fails, or it passes and takes the job. Assumes nothing.
-use Rattle.std.proofs.Common.{◌≡◌, ℕ, ◌-◌, Bool, true, false, cond, List, Some, None, Option, sym, refl, ap, ◌∙◌, subst}
+use Rattle.std.proofs.Common.{◌≡◌, ℕ, ◌-◌, Bool, true, false, cond, List, Some, None, sym, refl, ap, ◌∙◌, subst}
 use Rattle.std.specs.Option.{option_map}
 use Rattle.memory.specs.Meaning as memory
 use Rattle.model.specs.Helping.{marked, swap_at}

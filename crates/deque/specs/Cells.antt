@@ -1,5 +1,5 @@
 -- What the calls find in the cells. Assumes nothing.
-use Rattle.std.specs.Prelude.{ℕ, cond, List, Some, None, Ok, Err, Option, Result, nat_lt}
+use Rattle.std.specs.Prelude.{ℕ, cond, List, Some, None, Err, Option, Result, nat_lt}
 use Rattle.std.specs.Option.{option_map, ok_or}
 use Rattle.model.specs.Places.{at}
 use Rattle.model.specs.declared.cell.Cell.{Cell}

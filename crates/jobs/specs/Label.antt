@@ -1,5 +1,5 @@
 -- Label jobs: first label (4 bytes) and count (2). The outcome is the labels printed (2 bytes). Assumes nothing.
-use Rattle.std.specs.Prelude.{ℕ, Bool, cond, ◌&&◌, List, ◌++◌, length, Ok, Err, codes, decimal, Result, ◌==◌}
+use Rattle.std.specs.Prelude.{ℕ, cond, ◌&&◌, List, ◌++◌, length, Ok, Err, codes, decimal, Result, ◌==◌}
 use Rattle.jobs.specs.Bytes.{u16_at, u32_at, u16_bytes, u32_bytes, fits_u16, fits_u32}
 use Rattle.jobs.specs.Form.{Form, words}
 use Rattle.jobs.specs.declared.label.LabelJob.{LabelJob}

@@ -76,7 +76,7 @@ impl Job for CardJob {
         }
     }
 
-    fn print_outcome(res: i32, out: &mut Text) {
-        out.push_signed(res);
+    fn print_outcome(value: i32, out: &mut Text) {
+        out.push_signed(value);
     }
 }

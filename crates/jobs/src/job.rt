@@ -34,8 +34,8 @@ pub trait Job: Copy {
     fn print(self, out: &mut Text)
         ensures prints { Prints form self out.old out.new };
 
-    fn print_outcome(res: Self::Outcome, out: &mut Text)
-        ensures prints { Prints outcome res out.old out.new };
+    fn print_outcome(value: Self::Outcome, out: &mut Text)
+        ensures prints { Prints outcome value out.old out.new };
 
     ghost job_reads_back: { ReadsBack form };
 

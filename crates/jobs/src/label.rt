@@ -57,7 +57,7 @@ impl Job for LabelJob {
         print_words(out, "labels ", self.first, self.count as u32);
     }
 
-    fn print_outcome(res: u16, out: &mut Text) {
-        out.push_number(res as u64);
+    fn print_outcome(value: u16, out: &mut Text) {
+        out.push_number(value as u64);
     }
 }

@@ -1,5 +1,5 @@
 -- How long the lines of a listing are at most. Assumes nothing.
-use Rattle.std.proofs.Common.{ℕ, ◌^◌, ◌<◌, ◌≤◌, length, decimal, arith, length-append}
+use Rattle.std.proofs.Common.{◌^◌, ◌<◌, ◌≤◌, length, decimal, arith, length-append}
 use Rattle.text.proofs.Fitting.{five_digits}
 use Rattle.dayfile.specs.Faults.{number_of}
 use Rattle.dayfile.specs.declared.fault.FileFault.{FileFault}

@@ -1,5 +1,5 @@
 -- The whole listing, from the board's record on. Assumes nothing.
-use Rattle.std.proofs.Common.{◌≡◌, ℕ, ◌+◌, true, eqb, List, ◌++◌, length, drop, Ok, Err, sym, ap, ◌∙◌, subst, append_assoc, zero-add}
+use Rattle.std.proofs.Common.{◌≡◌, ℕ, ◌+◌, true, eqb, List, ◌++◌, length, drop, Ok, Err, sym, ap, ◌∙◌, append_assoc, zero-add}
 use Rattle.dayfile.specs.Format.{record_length, settings_from, placed}
 use Rattle.dayfile.specs.Holding.{held}
 use Rattle.dayfile.specs.Reading.{file_of, at_start, unread, Moves}

@@ -1,17 +1,15 @@
 -- A day that was written as a file is listed as that day. Assumes nothing.
-use Rattle.std.proofs.Common.{◌≡◌, ℕ, ◌+◌, ◌<◌, ◌≤◌, true, T, List, ◌++◌, length, drop, None, ap, ◌∙◌, arith, length-append}
-use Rattle.std.specs.List.{flat_map, AllByRecursion as All}
-use Rattle.calls.specs.declared.call.Call.{Call}
-use Rattle.dayfile.specs.Encoding.{settings_bytes, settings_fit, call_bytes, call_fits, day_bytes}
+use Rattle.std.proofs.Common.{◌≡◌, ℕ, ◌<◌, List, ◌++◌, length, drop, ap, ◌∙◌, arith, length-append}
+use Rattle.std.specs.List.{flat_map}
+use Rattle.dayfile.specs.Encoding.{settings_bytes, call_bytes, day_bytes}
 use Rattle.dayfile.specs.Format.{record_length}
 use Rattle.dayfile.specs.declared.settings.JobKind.{JobKind}
-use Rattle.dayfile.specs.declared.settings.Settings.{Settings}
 use Rattle.dayfile.proofs.Encoding.{days_read_back}
 use Rattle.dayfile.proofs.Holding.{reads_held, calls_within}
 use Rattle.jobs.specs.Form.{Form, ReadsBack}
 use Rattle.listing.specs.Counts.{nothing_yet}
 use Rattle.listing.specs.Lines.{line, board_line}
-use Rattle.listing.specs.Listing.{lines_of, lines_from, calls_listed, listed, listed_under, WrittenDayListed}
+use Rattle.listing.specs.Listing.{lines_of, calls_listed, listed, listed_under, WrittenDayListed}
 
 module _ {J O : Type 0} (kind : JobKind) (job : Form J) (outcome : Form O) (jobs_back : ReadsBack job) (outcomes_back : ReadsBack outcome) (by_kind : (file : List ℕ) → listed kind file ≡ calls_listed job outcome file) where
   pub written_day_listed : WrittenDayListed kind job outcome

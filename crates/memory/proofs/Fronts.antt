@@ -1,5 +1,5 @@
 -- The front of a queue, the entries that wait: its oldest, and one more landed. Assumes nothing.
-use Rattle.std.proofs.Common.{◌≡◌, ℕ, zero, suc, ◌+◌, ◌-◌, ◌<◌, ◌≤◌, min, List, [], ◌∷◌, ◌++◌, length, get_or, take, drop, sym, ap, ◌∙◌, arith, length-take}
+use Rattle.std.proofs.Common.{◌≡◌, ℕ, zero, suc, ◌+◌, ◌-◌, ◌<◌, ◌≤◌, List, [], ◌∷◌, ◌++◌, length, get_or, take, drop, sym, ap, ◌∙◌, arith, length-take}
 use lib.Seq.{take-append-le}
 use Rattle.std.proofs.lemmas.List.{drop_more, get_or-take, drop_all}
 use Rattle.memory.specs.Meaning.{landed, all_landed}

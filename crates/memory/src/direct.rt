@@ -83,7 +83,7 @@ impl Memory for Direct {
         ensures after { direct_meaning self.new ≡ after fences result (direct_meaning self.old) }
         ensures lands_none { result ≡ 0 }
     {
-        0
+        self.land()
     }
 
     fn land(&mut self) -> u8

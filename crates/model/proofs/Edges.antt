@@ -1,5 +1,5 @@
 -- The edges hold by computation. Assumes nothing.
-use Rattle.std.proofs.Common.{◌≡◌, refl}
+use Rattle.std.proofs.Common.{refl}
 use Rattle.model.specs.Edges.{Edges}
 use Rattle.model.specs.declared.cell.Cell.{Cell}
 

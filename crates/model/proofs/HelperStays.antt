@@ -1,13 +1,13 @@
 -- A helper's calls keep a board safe, and read no number that does not fit. Assumes nothing.
-use Rattle.std.proofs.Common.{◌≡◌, ℕ, zero, suc, ◌+◌, ◌-◌, ◌<◌, ◌≤◌, Bool, true, false, cond, eqb, ltb, List, [], ◌∷◌, length, Some, None, Option, sym, refl, ap, ◌∙◌, subst, arith, ltb-false, ltb-true}
+use Rattle.std.proofs.Common.{◌≡◌, ℕ, zero, suc, ◌+◌, ◌-◌, ◌<◌, ◌≤◌, Bool, true, false, cond, ltb, List, [], ◌∷◌, length, Some, None, Option, sym, refl, ap, ◌∙◌, subst, arith, ltb-true}
 use Rattle.std.specs.List.{AllByRecursion as All}
 use Rattle.memory.specs.Meaning as memory
 use Rattle.memory.specs.declared.words.Words.{Words}
 use Rattle.model.specs.Helping.{swap_at, step_aimed, step_of, finish_aimed, finish_of, marked, with_outcome}
 use Rattle.model.specs.Keeping.{InRange, PhaseFits, Sound}
-use Rattle.model.specs.Naming.{number, refusal_number}
+use Rattle.model.specs.Naming.{refusal_number}
 use Rattle.model.specs.Places.{at, at_number, changed}
-use Rattle.model.specs.State.{State, Effect, refused, state_after}
+use Rattle.model.specs.State.{State, Effect, refused}
 use Rattle.model.specs.declared.cell.Cell.{Cell}
 use Rattle.model.specs.declared.helper.Aim.{Aim}
 use Rattle.model.specs.declared.helper.Aim.TheVariants.{ReadFlag, ReadPair, Swap, ReadRequest, WriteRequest, Hold}
@@ -20,14 +20,13 @@ use Rattle.model.specs.declared.owner.Shrink.TheVariants as shrink_at
 use Rattle.model.specs.declared.reply.Access.{Access}
 use Rattle.model.specs.declared.reply.Access.TheVariants as access
 use Rattle.model.specs.declared.reply.Answer.{Answer}
-use Rattle.model.specs.declared.reply.Answer.TheVariants.{Going, Taken, AllGone, NoShare, Changed, Finished}
-use Rattle.model.specs.declared.reply.Refusal.{Refusal}
+use Rattle.model.specs.declared.reply.Answer.TheVariants.{Going, AllGone, NoShare, Changed}
 use Rattle.model.specs.declared.reply.Refusal.TheVariants.{UnknownHelper, Holding, HoldsNone, Misread}
 use Rattle.model.proofs.Entries.{length_changed}
 use Rattle.model.proofs.Ways.{by_test}
-use Rattle.model.proofs.Modes.{Quiet, Mode, with_words, StolenOne, settled_split_same, quiet_no_swap, mode_swap, quiet_split, mode_split}
+use Rattle.model.proofs.Modes.{with_words, settled_split_same, quiet_no_swap, mode_swap, quiet_split, mode_split}
 use Rattle.model.proofs.OwnerStays.{Goes, refused_goes}
-use Rattle.model.proofs.Safe.{Need, quiet, shared, idle_need, need, MemoryFits, idle_numbers, Numbers, AimFits, Safe, taken_more, fits_same, bound, need_bound}
+use Rattle.model.proofs.Safe.{Need, quiet, shared, need, MemoryFits, Numbers, AimFits, Safe, taken_more, fits_same, bound, need_bound}
 
 aims_changed : (size i : ℕ) (hs : List Helper) (a : Aim) → AimFits size a → All (λ h. AimFits size h.aim) hs → All (λ h. AimFits size h.aim) (changed hs i (λ _. record { aim = a }))
 aims_changed size i [] a fits all = tt

@@ -1,17 +1,17 @@
 -- Every call keeps the owner's numbers in range, and has one reply. Assumes nothing.
-use Rattle.std.proofs.Common.{◌≡◌, ℕ, zero, suc, ◌+◌, ◌-◌, ◌/◌, ◌<◌, ◌≤◌, min, Bool, true, false, cond, ◌&&◌, eqb, ltb, leb, List, Some, None, Option, sym, refl, ap, ◌∙◌, subst, arith, ltb-false, ltb-true, eqb-true, leb-true}
+use Rattle.std.proofs.Common.{◌≡◌, ℕ, ◌+◌, ◌/◌, ◌<◌, ◌≤◌, Bool, true, false, cond, ◌&&◌, eqb, ltb, leb, Some, None, Option, sym, refl, ◌∙◌, subst, arith, ltb-false, ltb-true, eqb-true, leb-true}
 use Rattle.calls.specs.declared.call.Call.{Call}
 use Rattle.memory.specs.Meaning as memory
-use Rattle.model.specs.Calls.{effect_of, Entry, Makes}
+use Rattle.model.specs.Calls.{effect_of}
 use Rattle.model.specs.State.{State, Effect, reply_of, state_after}
 use Rattle.calls.specs.declared.call.Call.TheVariants.{Push, Pop, Retire, OwnerStep, HelperStep, Finish, Land}
 use borrow.Author.Tests.{eqb-false}
-use Rattle.model.specs.Keeping.{InRange, PhaseFits, Sound, NumbersKeep, OneReply, CallsHaveOneReply}
+use Rattle.model.specs.Keeping.{InRange, PhaseFits, Sound, NumbersKeep, CallsHaveOneReply}
 use Rattle.model.specs.Calls.{with_cells}
 use Rattle.model.specs.Helping.{swap_at, step_aimed, step_of, helper_step, finish_aimed, finish_of, finish}
 use Rattle.model.specs.Owning.{idle, begun, top, push, popped, pop, retired, retired_with, retire, owner_step_at, owner_step, working}
 use Rattle.model.specs.Places.{at, at_number}
-use Rattle.model.specs.State.{refused, owns, with_head, with_split, with_flag, with_told, with_phase}
+use Rattle.model.specs.State.{refused, with_split, with_phase}
 use Rattle.model.specs.declared.cell.Cell.{Cell}
 use Rattle.model.specs.declared.helper.Aim.{Aim}
 use Rattle.model.specs.declared.helper.Aim.TheVariants.{ReadFlag, ReadPair, Swap, ReadRequest, WriteRequest, Hold}

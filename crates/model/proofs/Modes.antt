@@ -1,7 +1,7 @@
 -- What the shared words may look like, now and after any number of landings. Assumes nothing.
-use Rattle.std.proofs.Common.{◌≡◌, ℕ, zero, suc, ◌+◌, ◌<◌, ◌≤◌, Bool, true, false, cond, ◌&&◌, eqb, ltb, ◌⊎◌, List, [], ◌∷◌, ◌++◌, length, take, drop, sym, refl, ap, ◌∙◌, subst, inl, inr, arith, take-append-drop, ltb-true, eqb-true}
+use Rattle.std.proofs.Common.{◌≡◌, ℕ, zero, suc, ◌+◌, ◌<◌, ◌≤◌, true, cond, List, [], ◌∷◌, ◌++◌, length, take, drop, sym, refl, ap, ◌∙◌, subst, arith, take-append-drop, ltb-true, eqb-true}
 use Rattle.std.proofs.lemmas.List.{take_all, drop_all}
-use Rattle.memory.specs.Meaning.{Meaning, landed, all_landed, settled, oldest_landed, queued_up, swap_passes, swapped, asked}
+use Rattle.memory.specs.Meaning.{Meaning, landed, all_landed, settled, oldest_landed, queued_up, swap_passes, swapped}
 use Rattle.memory.specs.declared.words.Words.{Words}
 use Rattle.memory.specs.declared.words.Write.{Write}
 use Rattle.memory.specs.declared.words.Write.TheVariants.{Pair, Split, Flag, Request}

@@ -1,6 +1,5 @@
 -- The owner's calls keep a board safe, and read no number that does not fit. Assumes nothing.
-use Rattle.std.proofs.Common.{◌≡◌, ℕ, zero, suc, ◌+◌, ◌-◌, ◌/◌, ◌<◌, ◌≤◌, min, Bool, true, false, cond, ◌&&◌, eqb, ltb, leb, List, [], ◌∷◌, length, Some, None, Option, sym, refl, ap, ◌∙◌, subst, arith, ltb-false, ltb-true, eq-eqb, eqb-true, le-leb, leb-false, leb-true}
-use borrow.Author.Tests.{eqb-false}
+use Rattle.std.proofs.Common.{◌≡◌, ℕ, ◌+◌, ◌-◌, ◌/◌, ◌≤◌, Bool, true, false, cond, ◌&&◌, eqb, ltb, leb, Some, None, Option, sym, refl, ap, ◌∙◌, subst, arith, ltb-false, ltb-true, eq-eqb, eqb-true, le-leb}
 use Rattle.memory.specs.Meaning as memory
 use Rattle.memory.specs.declared.words.Write.TheVariants as write
 use Rattle.model.specs.Keeping.{InRange, PhaseFits, Sound}
@@ -8,8 +7,7 @@ use Rattle.std.specs.List.{AllByRecursion as All}
 use Rattle.model.specs.Orders.{progress}
 use Rattle.model.specs.Naming.{number, refusal_number}
 use Rattle.model.specs.Owning.{owner_step_at, working, ending_answer, idle, begun, top, push, popped, pop, retired, retired_with, retire, lowered}
-use Rattle.model.specs.State.{State, Effect, refused, owns, state_after, with_head, with_split, with_flag, with_told, with_phase}
-use Rattle.model.specs.Places.{changed}
+use Rattle.model.specs.State.{State, Effect, refused, owns, state_after, with_split, with_flag, with_told, with_phase}
 use Rattle.model.specs.declared.cell.Cell.{Cell}
 use Rattle.model.specs.declared.owner.Ending.{Ending}
 use Rattle.model.specs.declared.owner.Ending.TheVariants as ending
@@ -22,14 +20,14 @@ use Rattle.model.specs.declared.owner.Shrink.TheVariants as shrink_at
 use Rattle.model.specs.declared.reply.Access.{Access}
 use Rattle.model.specs.declared.reply.Access.TheVariants as access
 use Rattle.model.specs.declared.reply.Answer.{Answer}
-use Rattle.model.specs.declared.reply.Answer.TheVariants.{Going, Pushed, Work, Stolen, Retired}
+use Rattle.model.specs.declared.reply.Answer.TheVariants.{Going, Pushed, Stolen, Retired}
 use Rattle.model.specs.declared.reply.Refusal.{Refusal}
-use Rattle.model.specs.declared.reply.Refusal.TheVariants.{Busy, NothingBegun, Full, Empty, NotTold, Unfinished, Misread}
+use Rattle.model.specs.declared.reply.Refusal.TheVariants.{Busy, NothingBegun, Full, Empty, NotTold, Unfinished}
 use Rattle.model.proofs.Entries.{length_changed}
 use Rattle.model.proofs.Keeping.{idle_is}
 use Rattle.model.proofs.Ways.{by_test, never, all_two}
-use Rattle.model.proofs.Modes.{Quiet, Mode, mode_quiet, mode_more, quiet_opens, settled_tail, fence_shows, settled_landed, settled_joins}
-use Rattle.model.proofs.Safe.{quiet, shared, idle_need, need, MemoryFits, idle_numbers, Numbers, AimFits, Safe, given_up, fits_lands, write_shared, write_quiet, rest_numbers}
+use Rattle.model.proofs.Modes.{Quiet, Mode, mode_quiet, quiet_opens, settled_tail, fence_shows, settled_landed, settled_joins}
+use Rattle.model.proofs.Safe.{shared, idle_need, need, MemoryFits, idle_numbers, Numbers, AimFits, Safe, given_up, fits_lands, write_shared, write_quiet, rest_numbers}
 
 -- the call leads to a safe board, and does not refuse with 20
 pub record Goes {J O : Type 0} (stolen : ℕ) (s : State J O) (e : Effect J O) (n : ℕ) : Type 0 where

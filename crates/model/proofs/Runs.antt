@@ -1,13 +1,12 @@
 -- The law over runs: what a board keeps, call by call, from its making on. Assumes nothing.
-use Rattle.std.proofs.Common.{◌≡◌, ℕ, ◌≤◌, true, List, [], ◌∷◌, ◌++◌, length, sym, refl, ap, ◌∙◌, subst, append_assoc, append-nil}
-use Rattle.model.specs.Calls.{effect_of, Entry, Makes, new_board}
+use Rattle.std.proofs.Common.{◌≡◌, ℕ, List, [], ◌∷◌, ◌++◌, length, sym, refl, ap, subst, append_assoc, append-nil}
+use Rattle.model.specs.Calls.{effect_of, Entry, Makes}
 use Rattle.model.specs.Histories.{New, Runs, JobsAddUp, NumbersInRange}
 use Rattle.model.specs.Keeping.{Sound}
-use Rattle.model.specs.Orders.{Place, Orders, OneOrderOf}
-use Rattle.model.specs.State.{State, Effect, reply_of, state_after}
-use Rattle.model.specs.declared.cell.Cell.{Cell}
+use Rattle.model.specs.Orders.{Place, OneOrderOf}
+use Rattle.model.specs.State.{State, state_after}
 use Rattle.model.proofs.Cells.{CellsFit, cells_new}
-use Rattle.model.proofs.Events.{Event, stage, Allowed}
+use Rattle.model.proofs.Events.{stage, Allowed}
 use Rattle.model.proofs.Keeping.{numbers_keep}
 use Rattle.model.proofs.Ordering.{Kept, kept_new, kept_more, kept_orders}
 use Rattle.model.proofs.Safe.{Safe, next_stolen}

@@ -1,5 +1,5 @@
 -- What a board keeps while it runs: how many positions are stolen, and what the shared words may show. Assumes nothing.
-use Rattle.std.proofs.Common.{◌≡◌, ℕ, zero, suc, ◌+◌, ◌-◌, ◌/◌, ◌<◌, ◌≤◌, min, Bool, true, false, cond, ◌&&◌, List, [], ◌∷◌, length, sym, refl, ap, ◌∙◌, subst, arith}
+use Rattle.std.proofs.Common.{◌≡◌, ℕ, ◌+◌, ◌-◌, ◌<◌, ◌≤◌, Bool, true, false, length, sym, refl, ap, ◌∙◌, subst, arith}
 use Rattle.memory.specs.Meaning as memory
 use Rattle.memory.specs.declared.words.Words.{Words}
 use Rattle.memory.specs.declared.words.Write.{Write}
@@ -15,13 +15,11 @@ use Rattle.model.specs.Keeping.{PhaseFits}
 use Rattle.model.specs.Owning.{idle}
 use Rattle.model.specs.declared.helper.Aim.{Aim}
 use Rattle.model.specs.declared.helper.Aim.TheVariants.{ReadFlag, ReadPair, Swap, ReadRequest, WriteRequest, Hold}
-use Rattle.model.specs.declared.helper.Helper.{Helper}
 use Rattle.model.specs.declared.owner.Open.TheVariants as open_at
 use Rattle.model.specs.declared.owner.Phase.{Phase}
 use Rattle.model.specs.declared.owner.Phase.TheVariants.{Idle, Opening, Sharing, Shrinking, Closing, Retiring}
-use Rattle.model.specs.declared.owner.Share.TheVariants as share_at
 use Rattle.model.specs.declared.owner.Shrink.TheVariants as shrink_at
-use Rattle.model.proofs.Modes.{Quiet, Mode, Within, StolenOne, with_words, quiet_lands, mode_lands, mode_more, mode_joins, quiet_joins, quiet_opens, mode_quiet, settled_tail, settled_landed, settled_joins, settled_split_same, mode_same, quiet_same, fence_shows, quiet_no_swap, mode_swap}
+use Rattle.model.proofs.Modes.{Quiet, Mode, Within, with_words, quiet_lands, mode_lands, mode_more, mode_joins, quiet_joins, settled_landed, settled_joins, settled_split_same, mode_same, quiet_same}
 use Rattle.model.proofs.Keeping.{idle_is}
 
 -- what the memory owes a phase: nothing can be stolen, or splits up to a bound are seen and the owner reads this one

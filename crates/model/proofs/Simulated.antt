@@ -36,7 +36,7 @@ use Rattle.model.proofs.Entries.{numbered, number_positive, number_of, take_at, 
 use Rattle.model.proofs.Events.{Stage, resting, unplaced, placed, stage, Event, nothing, places, StepAllowed, AttemptAllowed, Allowed, Happens}
 use Rattle.model.proofs.Ways.{by_test, never, below}
 use Rattle.model.proofs.Modes.{quiet_no_swap, mode_swap, settled_tail}
-use Rattle.model.proofs.Safe.{Need, quiet, shared, idle_need, need, MemoryFits, idle_numbers, Numbers, Safe, next_stolen, bound, need_bound, rest_numbers}
+use Rattle.model.proofs.Safe.{Need, quiet, shared, need, MemoryFits, idle_numbers, Numbers, Safe, next_stolen, bound, need_bound, rest_numbers}
 
 abbrev holding : Aim → Bool
 holding ReadFlag = false

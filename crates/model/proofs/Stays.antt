@@ -1,5 +1,5 @@
 -- Every call keeps a board safe, so that on a board just made refusal 20 never comes. Assumes nothing.
-use Rattle.std.proofs.Common.{◌≡◌, ℕ, zero, suc, ◌+◌, ◌<◌, ◌≤◌, Bool, true, false, cond, eqb, List, [], ◌∷◌, length, replicate, sym, refl, ap, ◌∙◌, subst, arith}
+use Rattle.std.proofs.Common.{◌≡◌, ℕ, zero, suc, eqb, List, [], ◌∷◌, length, replicate, sym, refl, ap, ◌∙◌, subst, arith}
 use Rattle.std.specs.List.{AllByRecursion as All}
 use Rattle.calls.specs.declared.call.Call.{Call}
 use Rattle.calls.specs.declared.call.Call.TheVariants.{Push, Pop, Retire, OwnerStep, HelperStep, Finish, Land}
@@ -12,13 +12,12 @@ use Rattle.model.specs.Naming.{refusal_number}
 use Rattle.model.specs.Orders.{progress}
 use Rattle.model.specs.Owning.{push, pop, retire, owner_step}
 use Rattle.model.specs.Places.{at_number}
-use Rattle.model.specs.State.{State, Effect, refused, reply_of, state_after}
+use Rattle.model.specs.State.{State, Effect, refused, state_after}
 use Rattle.model.specs.declared.cell.Cell.{Cell}
 use Rattle.model.specs.declared.helper.Aim.TheVariants.{ReadFlag}
 use Rattle.model.specs.declared.helper.Helper.{Helper}
 use Rattle.model.specs.declared.reply.Access.{Access}
 use Rattle.model.specs.declared.reply.Access.TheVariants as access
-use Rattle.model.specs.declared.reply.Answer.{Answer}
 use Rattle.model.specs.declared.reply.Refusal.TheVariants.{WrongCells}
 use Rattle.model.proofs.HelperStays.{helper_goes, finish_goes}
 use Rattle.model.proofs.Keeping.{numbers_keep}

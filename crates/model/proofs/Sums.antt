@@ -1,6 +1,5 @@
 -- Jobs accepted, worked, taken and left add up, call by call. Assumes nothing.
-use Rattle.std.proofs.Common.{◌≡◌, ℕ, zero, suc, ◌+◌, ◌-◌, ◌/◌, ◌<◌, ◌≤◌, min, Bool, true, false, cond, ◌&&◌, eqb, ltb, leb, ◌⊎◌, List, [], ◌∷◌, take, is_some, Some, None, Option, sym, refl, ap, ◌∙◌, subst, arith, ltb-false, ltb-true, eqb-true}
-use borrow.Author.Tests.{eqb-false}
+use Rattle.std.proofs.Common.{◌≡◌, ℕ, zero, suc, ◌+◌, ◌/◌, ◌<◌, ◌≤◌, Bool, true, cond, ◌&&◌, eqb, ltb, leb, List, [], ◌∷◌, take, is_some, Some, None, Option, sym, refl, ap, ◌∙◌, subst, arith, ltb-false}
 use Rattle.calls.specs.declared.call.Call.{Call}
 use Rattle.calls.specs.declared.call.Call.TheVariants.{Push, Pop, Retire, OwnerStep, HelperStep, Finish, Land}
 use Rattle.memory.specs.Meaning as memory
@@ -9,9 +8,9 @@ use Rattle.model.specs.Helping.{swap_at, step_aimed, step_of, helper_step, finis
 use Rattle.model.specs.Histories.{is_pushed, is_work, is_taken, pushed_count, work_count, taken_count, untaken}
 use Rattle.model.specs.Keeping.{PhaseFits, Sound}
 use Rattle.model.specs.Orders.{progress}
-use Rattle.model.specs.Owning.{idle, begun, top, push, popped, pop, retired, retired_with, retire, owner_step_at, owner_step, working, ending_answer}
+use Rattle.model.specs.Owning.{idle, top, push, popped, pop, retired, retired_with, retire, owner_step_at, owner_step, working, ending_answer}
 use Rattle.model.specs.Places.{at, at_number}
-use Rattle.model.specs.State.{State, Effect, refused, owns, state_after, with_head, with_split, with_flag, with_told, with_phase}
+use Rattle.model.specs.State.{State, Effect, refused, owns, state_after, with_phase}
 use Rattle.model.specs.declared.cell.Cell.{Cell}
 use Rattle.model.specs.declared.helper.Aim.{Aim}
 use Rattle.model.specs.declared.helper.Aim.TheVariants.{ReadFlag, ReadPair, Swap, ReadRequest, WriteRequest, Hold}
@@ -26,8 +25,7 @@ use Rattle.model.specs.declared.owner.Share.TheVariants as share_at
 use Rattle.model.specs.declared.owner.Shrink.TheVariants as shrink_at
 use Rattle.model.specs.declared.reply.Access.{Access}
 use Rattle.model.specs.declared.reply.Access.TheVariants as access
-use Rattle.model.specs.declared.reply.Answer.{Answer}
-use Rattle.model.specs.declared.reply.Answer.TheVariants.{Going, Pushed, Work, Stolen, Retired, Taken, AllGone, NoShare, Changed, Finished}
+use Rattle.model.specs.declared.reply.Answer.TheVariants.{Going, Pushed}
 use Rattle.model.specs.declared.reply.Refusal.{Refusal}
 use Rattle.model.specs.declared.reply.Refusal.TheVariants.{Busy, Full, Empty, NotTold, Unfinished, Misread, WrongCells}
 use Rattle.model.proofs.Entries.{none_there, number_positive, TakenAt, FreeAt}

@@ -1,5 +1,5 @@
 -- Boards at their edges, worked out by the definitions, for every kind of job. Assumes nothing.
-use Rattle.std.specs.Prelude.{◌≡◌, ℕ, ◌<◌, ◌≤◌, Bool, true, false, List, [], ◌∷◌, ◌++◌, Some, None, Ok, Err}
+use Rattle.std.specs.Prelude.{◌≡◌, ℕ, Bool, true, false, List, [], ◌∷◌, ◌++◌, Ok, Err}
 use Rattle.calls.specs.declared.call.Call.{Call}
 use Rattle.calls.specs.declared.call.Call.TheVariants.{Push, Pop, Retire, OwnerStep, HelperStep, Finish}
 use Rattle.memory.specs.declared.words.Words.{Words}
@@ -7,7 +7,6 @@ use Rattle.model.specs.Calls.{effect_of, making, new_board}
 use Rattle.model.specs.State.{State, reply_of, state_after}
 use Rattle.model.specs.declared.cell.Cell.{Cell}
 use Rattle.model.specs.declared.helper.Aim.TheVariants.{ReadFlag}
-use Rattle.model.specs.declared.helper.Helper.{Helper}
 use Rattle.model.specs.declared.owner.Phase.TheVariants.{Idle}
 use Rattle.model.specs.declared.reply.Access.{Access}
 use Rattle.model.specs.declared.reply.Access.TheVariants as access

@@ -1,5 +1,5 @@
 -- A helper's calls: each step of an attempt makes one access, and a finish hands the outcome in. Assumes nothing.
-use Rattle.std.specs.Prelude.{ℕ, ◌-◌, Bool, cond, List, Some, None, Option, nat_lt}
+use Rattle.std.specs.Prelude.{ℕ, ◌-◌, cond, Some, None, Option, nat_lt}
 use Rattle.memory.specs.Meaning as memory
 use Rattle.memory.specs.declared.words.Words.{Words}
 use Rattle.model.specs.Places.{at, at_number, changed}

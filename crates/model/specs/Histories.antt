@@ -1,5 +1,5 @@
 -- Histories: the calls of a board since its making, the newest first, and what is counted in them. Assumes nothing.
-use Rattle.std.specs.Prelude.{◌≡◌, ℕ, ◌+◌, ◌-◌, ◌*◌, ◌≤◌, Bool, true, false, cond, ◌||◌, List, [], ◌∷◌, length, take, is_some, ◌≢◌}
+use Rattle.std.specs.Prelude.{◌≡◌, ℕ, ◌+◌, ◌-◌, ◌*◌, ◌≤◌, Bool, true, false, cond, List, [], ◌∷◌, length, take, is_some, ◌≢◌}
 use Rattle.std.specs.List.{AllByRecursion as All}
 use Rattle.model.specs.Calls.{Entry, Makes, new_board}
 use Rattle.model.specs.Keeping.{InRange}

@@ -8,7 +8,6 @@ use Rattle.model.specs.declared.owner.Open.TheVariants as open_at
 use Rattle.model.specs.declared.owner.Owner.{Owner}
 use Rattle.model.specs.declared.owner.Phase.{Phase}
 use Rattle.model.specs.declared.owner.Phase.TheVariants.{Idle, Opening, Sharing, Shrinking, Closing, Retiring}
-use Rattle.model.specs.declared.owner.Share.TheVariants as share_at
 use Rattle.model.specs.declared.owner.Shrink.TheVariants as shrink_at
 
 module _ {J O : Type 0} where

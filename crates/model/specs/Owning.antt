@@ -1,5 +1,5 @@
 -- The owner's calls: push, pop and retire begin an operation, and each step makes its next access. Assumes nothing.
-use Rattle.std.specs.Prelude.{ℕ, ◌+◌, ◌-◌, ◌/◌, min, Bool, true, false, cond, not, ◌&&◌, ◌||◌, List, Some, None, Option, ◌==◌, nat_le, nat_lt}
+use Rattle.std.specs.Prelude.{ℕ, ◌+◌, ◌-◌, ◌/◌, min, Bool, true, false, cond, ◌&&◌, Some, None, Option, ◌==◌, nat_le, nat_lt}
 use Rattle.memory.specs.Meaning as memory
 use Rattle.memory.specs.declared.words.Write.TheVariants as write
 use Rattle.model.specs.Places.{at_number, changed}

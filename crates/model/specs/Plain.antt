@@ -1,5 +1,5 @@
 -- The plain board: what the operations of a board mean when they come one at a time. Assumes nothing.
-use Rattle.std.specs.Prelude.{ℕ, zero, suc, ◌+◌, ◌-◌, min, Bool, true, false, cond, List, [], ◌∷◌, ◌++◌, length, take, is_some, Some, None, Option, ◌==◌, nat_lt}
+use Rattle.std.specs.Prelude.{ℕ, suc, ◌-◌, min, Bool, false, cond, List, [], ◌∷◌, ◌++◌, length, take, is_some, Some, None, Option, ◌==◌, nat_lt}
 use Rattle.model.specs.Helping.{marked, with_outcome}
 use Rattle.model.specs.Places.{at, at_number, changed}
 use Rattle.model.specs.declared.cell.Cell.{Cell}

@@ -1,14 +1,13 @@
 -- A board's whole state, and what one call does to it. Assumes nothing.
-use Rattle.std.specs.Prelude.{◌≡◌, ℕ, Bool, List, Some}
+use Rattle.std.specs.Prelude.{◌≡◌, ℕ, Bool, List}
 use Rattle.memory.specs.Meaning as memory
 use Rattle.model.specs.declared.cell.Cell.{Cell}
-use Rattle.model.specs.declared.helper.Aim.{Aim}
 use Rattle.model.specs.declared.helper.Helper.{Helper}
 use Rattle.model.specs.declared.owner.Owner.{Owner}
 use Rattle.model.specs.declared.owner.Phase.{Phase}
 use Rattle.model.specs.declared.reply.Access.{Access}
 use Rattle.model.specs.declared.reply.Answer.{Answer}
-use Rattle.model.specs.declared.reply.Answer.TheVariants.{Going, Refused}
+use Rattle.model.specs.declared.reply.Answer.TheVariants.{Refused}
 use Rattle.model.specs.declared.reply.Refusal.{Refusal}
 use Rattle.model.specs.declared.reply.Reply.{Reply}
 

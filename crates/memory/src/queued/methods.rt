@@ -72,7 +72,7 @@ impl Memory for Queued {
 
     ghost picks = { λ access n m. n ≡ queued_lands access m };
 
-    ghost few = { first_of (Prim.search rules, Prim.grind (arith, Self.row.coded.inj)) };
+    ghost few = { Prim.search rules };
 
     fn owner_pair(&self) -> (u16, u16) {
         let words = self.owner_words();

@@ -1,4 +1,3 @@
-use Rattle.std.proofs.Common.{◌≤◌, length}
 use Rattle.std.proofs.lemmas.List.{take_all}
 use Rattle.text.proofs.Fitting.{more, nothing_gained, same_piece}
 use Rattle.text.proofs.text.Text.put_all.Goals as goal

@@ -1,4 +1,4 @@
-use Rattle.std.proofs.Common.{◌≤◌, length, take}
+use Rattle.std.proofs.Common.{take}
 use Rattle.text.specs.Content.{Gains}
 use Rattle.text.proofs.text.Text.put_all.Given as goal
 

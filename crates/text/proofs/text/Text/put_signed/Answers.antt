@@ -1,4 +1,4 @@
-use Rattle.std.proofs.Common.{◌≡◌, Bool, ℤ, pos, nat_abs, decimal, sym, ap, ◌∙◌, subst, arith, w64}
+use Rattle.std.proofs.Common.{pos, nat_abs, decimal, sym, ap, ◌∙◌, arith, w64}
 use lib.Signed.{lt_z}
 use Rattle.std.proofs.lemmas.Fmt.{length_signed_le}
 use Rattle.std.proofs.lemmas.Int.{to_z-of_z}
