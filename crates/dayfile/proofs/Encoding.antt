@@ -2,7 +2,7 @@
 use Rattle.std.proofs.Common.{◌≡◌, ℕ, suc, ◌+◌, ◌<◌, ◌≤◌, Bool, true, false, cond, not, ◌&&◌, T, eqb, ltb, List, [], ◌∷◌, ◌++◌, length, take, drop, Some, None, Ok, Err, sym, refl, ap, ◌∙◌, subst, arith, ltb→lt, length-append, eq-eqb}
 use Rattle.std.proofs.ByRecursion.{All-append}
 use Rattle.std.proofs.lemmas.List.{take_at, drop_at}
-use Rattle.std.specs.List.{flat_map, AllByRecursion as All}
+use Rattle.std.specs.List.{flat_map, AllByRecursion}
 use Rattle.calls.specs.declared.call.Call.{Call}
 use Rattle.calls.specs.declared.call.Call.TheVariants.{Push, Pop, Retire, OwnerStep, HelperStep, Finish, Land}
 use Rattle.jobs.specs.Bytes.{u16_bytes}
@@ -54,7 +54,7 @@ job_small : (j : JobKind) → job_byte j < 256
 job_small Cards = omega arith
 job_small Labels = omega arith
 
-settings_small : (s : Settings) → T (settings_fit s) → All (λ b. b < 256) (settings_bytes s)
+settings_small : (s : Settings) → T (settings_fit s) → AllByRecursion (λ b. b < 256) (settings_bytes s)
 settings_small s fits =
     let few : s.helpers < 256 = grind arith in
     (omega arith, (omega arith, (omega arith, (omega arith, (omega arith, (few, (memory_small s.memory, (job_small s.jobs, tt))))))))
@@ -116,16 +116,16 @@ module _ {J O : Type 0} (job : Form J) (outcome : Form O) where
         let (tag, value, same, short) = value_short c fits in
         subst (λ b. drop (record_length (b ++ more)) (b ++ more) ≡ more) (sym same) (more_left tag value more short)
 
-    all_read : (calls : List (Call J O)) → All (λ c. T (call_fits job outcome c)) calls → Reads job outcome (flat_map (call_bytes job outcome) calls) calls
+    all_read : (calls : List (Call J O)) → AllByRecursion (λ c. T (call_fits job outcome c)) calls → Reads job outcome (flat_map (call_bytes job outcome) calls) calls
     all_read [] fit = refl
     all_read (c ∷ calls) fit =
         let later = flat_map (call_bytes job outcome) calls in
         (call_back c later fit.0, subst (λ rest. Reads job outcome rest calls) (sym (call_past c later fit.0)) (all_read calls fit.1))
 
-    record_small : (tag : ℕ) (value : List ℕ) → tag < 256 → All (λ b. b < 256) value → All (λ b. b < 256) (record_bytes tag value)
+    record_small : (tag : ℕ) (value : List ℕ) → tag < 256 → AllByRecursion (λ b. b < 256) value → AllByRecursion (λ b. b < 256) (record_bytes tag value)
     record_small tag value small all = (small, (omega arith, (omega arith, all)))
 
-    call_small : (c : Call J O) → T (call_fits job outcome c) → All (λ b. b < 256) (call_bytes job outcome c)
+    call_small : (c : Call J O) → T (call_fits job outcome c) → AllByRecursion (λ b. b < 256) (call_bytes job outcome c)
     call_small (Push j) fits = record_small 2 (job.encoded j) (omega arith) (jobs_back.bytes j)
     call_small Pop fits = record_small 3 [] (omega arith) tt
     call_small Retire fits = record_small 4 [] (omega arith) tt
@@ -134,7 +134,7 @@ module _ {J O : Type 0} (job : Form J) (outcome : Form O) where
     call_small (Finish helper o) fits = record_small 7 (helper ∷ outcome.encoded o) (omega arith) (ltb→lt helper 256 (first (ltb helper 256) (outcome.fits o) fits), outcomes_back.bytes o)
     call_small Land fits = record_small 8 [] (omega arith) tt
 
-    calls_small : (calls : List (Call J O)) → All (λ c. T (call_fits job outcome c)) calls → All (λ b. b < 256) (flat_map (call_bytes job outcome) calls)
+    calls_small : (calls : List (Call J O)) → AllByRecursion (λ c. T (call_fits job outcome c)) calls → AllByRecursion (λ b. b < 256) (flat_map (call_bytes job outcome) calls)
     calls_small [] fit = tt
     calls_small (c ∷ calls) fit = All-append _ _ _ (call_small c fit.0) (calls_small calls fit.1)
 

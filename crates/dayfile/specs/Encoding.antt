@@ -1,6 +1,6 @@
 -- How a day is written as a file, and the law that reading gives back what was written. Assumes nothing.
 use Rattle.std.specs.Prelude.{◌≡◌, ℕ, ◌<◌, ◌≤◌, Bool, true, false, not, ◌&&◌, T, List, [], ◌∷◌, ◌++◌, length, drop, Some, None, Ok, nat_lt}
-use Rattle.std.specs.List.{flat_map, AllByRecursion as All}
+use Rattle.std.specs.List.{flat_map, AllByRecursion}
 use Rattle.calls.specs.declared.call.Call.{Call}
 use Rattle.calls.specs.declared.call.Call.TheVariants.{Push, Pop, Retire, OwnerStep, HelperStep, Finish, Land}
 use Rattle.jobs.specs.Bytes.{u16_bytes}
@@ -59,11 +59,11 @@ module _ {J O : Type 0} (job : Form J) (outcome : Form O) where
 
   -- a day that was written is a file of bytes, and is read as that day
   pub record ReadAsWritten (s : Settings) (calls : List (Call J O)) : Type 0 where
-    pub bytes : All (λ b. b < 256) (day_bytes s calls)
+    pub bytes : AllByRecursion (λ b. b < 256) (day_bytes s calls)
     pub board : settings_from true (day_bytes s calls) ≡ Ok s
     pub rest : Reads (drop (record_length (day_bytes s calls)) (day_bytes s calls)) calls
 
   -- every day whose numbers fit, and that a file has room for, is read as it was written
   abbrev pub DaysReadBack : Type 0
   DaysReadBack =
-      (s : Settings) (calls : List (Call J O)) → T (settings_fit s) → All (λ c. T (call_fits c)) calls → length (day_bytes s calls) ≤ 61440 → ReadAsWritten s calls
+      (s : Settings) (calls : List (Call J O)) → T (settings_fit s) → AllByRecursion (λ c. T (call_fits c)) calls → length (day_bytes s calls) ≤ 61440 → ReadAsWritten s calls

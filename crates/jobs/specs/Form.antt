@@ -1,6 +1,6 @@
 -- How values of a type stand in a day file and in a printed line. Assumes nothing.
 use Rattle.std.specs.Prelude.{◌≡◌, ℕ, ◌<◌, ◌≤◌, Bool, T, List, ◌++◌, length, Ok, codes, decimal, Result}
-use Rattle.std.specs.List.{AllByRecursion as All}
+use Rattle.std.specs.List.{AllByRecursion}
 use Rattle.jobs.specs.declared.fault.JobFault.{JobFault}
 use Rattle.text.specs.Content.{Gains}
 use Rattle.text.specs.declared.text.Text.{Text}
@@ -24,7 +24,7 @@ words word first second = word ++ (decimal first ++ (codes " " ++ decimal second
 -- the encoding of a value is bytes, as many as the width, and is decoded to that value
 pub record ReadsBack {X : Type 0} (f : Form X) : Type 0 where
   pub narrow : f.width < 65535
-  pub bytes : (x : X) → All (λ b. b < 256) (f.encoded x)
+  pub bytes : (x : X) → AllByRecursion (λ b. b < 256) (f.encoded x)
   pub long : (x : X) → T (f.fits x) → length (f.encoded x) ≡ f.width
   pub back : (x : X) → T (f.fits x) → f.decoded (f.encoded x) ≡ Ok x
 

@@ -1,6 +1,6 @@
 -- The whole listing of a day file, by what the file holds. Assumes nothing.
 use Rattle.std.specs.Prelude.{◌≡◌, ℕ, ◌≤◌, true, T, List, [], ◌∷◌, ◌++◌, length, drop, Some, None, Ok, Err, Option, Result}
-use Rattle.std.specs.List.{AllByRecursion as All}
+use Rattle.std.specs.List.{AllByRecursion}
 use Rattle.calls.specs.declared.call.Call.{Call}
 use Rattle.dayfile.specs.Encoding.{settings_fit, call_fits, day_bytes}
 use Rattle.dayfile.specs.Format.{record_length, settings_from}
@@ -46,4 +46,4 @@ listing file = listed_under (settings_from true file) file
 -- a day of this kind of job that was written as a file is listed as that day: its board, a line for each call, the counts
 abbrev pub WrittenDayListed : {J O : Type 0} → JobKind → Form J → Form O → Type 0
 WrittenDayListed {J} {O} kind job outcome =
-    (s : Settings) (calls : List (Call J O)) → s.jobs ≡ kind → T (settings_fit s) → All (λ c. T (call_fits job outcome c)) calls → length (day_bytes job outcome s calls) ≤ 61440 → listing (day_bytes job outcome s calls) ≡ line (board_line s) ++ lines_from job outcome nothing_yet calls None
+    (s : Settings) (calls : List (Call J O)) → s.jobs ≡ kind → T (settings_fit s) → AllByRecursion (λ c. T (call_fits job outcome c)) calls → length (day_bytes job outcome s calls) ≤ 61440 → listing (day_bytes job outcome s calls) ≡ line (board_line s) ++ lines_from job outcome nothing_yet calls None

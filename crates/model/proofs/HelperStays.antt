@@ -1,6 +1,6 @@
 -- A helper's calls keep a board safe, and read no number that does not fit. Assumes nothing.
 use Rattle.std.proofs.Common.{◌≡◌, ℕ, zero, suc, ◌+◌, ◌-◌, ◌<◌, ◌≤◌, Bool, true, false, cond, ltb, List, [], ◌∷◌, length, Some, None, Option, sym, refl, ap, ◌∙◌, subst, arith, ltb-true}
-use Rattle.std.specs.List.{AllByRecursion as All}
+use Rattle.std.specs.List.{AllByRecursion}
 use Rattle.memory.specs.Meaning as memory
 use Rattle.memory.specs.declared.words.Words.{Words}
 use Rattle.model.specs.Helping.{swap_at, step_aimed, step_of, finish_aimed, finish_of, marked, with_outcome}
@@ -28,7 +28,7 @@ use Rattle.model.proofs.Modes.{with_words, settled_split_same, quiet_no_swap, mo
 use Rattle.model.proofs.OwnerStays.{Goes, refused_goes}
 use Rattle.model.proofs.Safe.{Need, quiet, shared, need, MemoryFits, Numbers, AimFits, Safe, taken_more, fits_same, bound, need_bound}
 
-aims_changed : (size i : ℕ) (hs : List Helper) (a : Aim) → AimFits size a → All (λ h. AimFits size h.aim) hs → All (λ h. AimFits size h.aim) (changed hs i (λ _. record { aim = a }))
+aims_changed : (size i : ℕ) (hs : List Helper) (a : Aim) → AimFits size a → AllByRecursion (λ h. AimFits size h.aim) hs → AllByRecursion (λ h. AimFits size h.aim) (changed hs i (λ _. record { aim = a }))
 aims_changed size i [] a fits all = tt
 aims_changed size zero (h ∷ hs) a fits all = (fits, all.1)
 aims_changed size (suc i) (h ∷ hs) a fits all = (all.0, aims_changed size i hs a fits all.1)
@@ -150,7 +150,7 @@ module _ {J O : Type 0} (s : State J O) (R : ℕ) (sound : Sound s.owner) (safe 
       aims_on memory.asks access.WriteRequest NoShare ReadFlag (fits_same o.size R s.memory (memory.asked s.memory.words) d refl refl safe.memory) tt (λ no. omega arith)
   aimed_goes (Hold position) aimed = refused_goes s R sound safe n access.Step Holding (λ no. omega arith)
 
-  aim_of : (hs : List Helper) (k : ℕ) (h : Helper) → All (λ x. AimFits o.size x.aim) hs → at hs k ≡ Some h → AimFits o.size h.aim
+  aim_of : (hs : List Helper) (k : ℕ) (h : Helper) → AllByRecursion (λ x. AimFits o.size x.aim) hs → at hs k ≡ Some h → AimFits o.size h.aim
   aim_of [] k h all is = absurd (let z : ◌≡◌ {A = ℕ} 0 1 = cc in omega arith)
   aim_of (x ∷ hs) zero h all is = subst (λ y. AimFits o.size y.aim) (some_same x h is) all.0
   aim_of (x ∷ hs) (suc k) h all is = aim_of hs k h all.1 is

@@ -3,7 +3,7 @@ use Rattle.std.proofs.Common.{◌≡◌, ℕ, ◌+◌, ◌-◌, ◌/◌, ◌≤�
 use Rattle.memory.specs.Meaning as memory
 use Rattle.memory.specs.declared.words.Write.TheVariants as write
 use Rattle.model.specs.Keeping.{InRange, PhaseFits, Sound}
-use Rattle.std.specs.List.{AllByRecursion as All}
+use Rattle.std.specs.List.{AllByRecursion}
 use Rattle.model.specs.Orders.{progress}
 use Rattle.model.specs.Naming.{number, refusal_number}
 use Rattle.model.specs.Owning.{owner_step_at, working, ending_answer, idle, begun, top, push, popped, pop, retired, retired_with, retire, lowered}
@@ -55,7 +55,7 @@ module _ {J O : Type 0} (s : State J O) (R : ℕ) (sound : Sound s.owner) (safe 
       told = told;
       memory = fits;
       numbers = numbers;
-      aims = subst (λ k. All (λ h. AimFits k h.aim) s.helpers) (sym size) safe.aims;
+      aims = subst (λ k. AllByRecursion (λ h. AimFits k h.aim) s.helpers) (sym size) safe.aims;
       cells = safe.cells ∙ sym size;
     };
     fine = fine;

@@ -4,7 +4,7 @@ use Rattle.memory.specs.Meaning as memory
 use Rattle.memory.specs.declared.words.Words.{Words}
 use Rattle.memory.specs.declared.words.Write.{Write}
 use Rattle.memory.specs.declared.words.Write.TheVariants as write
-use Rattle.std.specs.List.{AllByRecursion as All}
+use Rattle.std.specs.List.{AllByRecursion}
 use Rattle.calls.specs.declared.call.Call.{Call}
 use Rattle.calls.specs.declared.call.Call.TheVariants.{Push, Pop, Retire, OwnerStep, HelperStep, Finish, Land}
 use Rattle.model.specs.Orders.{Progress, going, ended, barred, progress}
@@ -84,7 +84,7 @@ pub record Safe {J O : Type 0} (stolen : ℕ) (s : State J O) : Type 0 where
   pub told : s.owner.told ≤ stolen
   pub memory : MemoryFits s.owner.size stolen s.memory (need s.owner.own_flag s.owner.own_split s.owner.head s.owner.phase)
   pub numbers : Numbers s.owner.own_flag stolen s.owner.own_split s.owner.head s.owner.phase
-  pub aims : All (λ h. AimFits s.owner.size h.aim) s.helpers
+  pub aims : AllByRecursion (λ h. AimFits s.owner.size h.aim) s.helpers
   pub cells : length s.cells ≡ s.owner.size
 
 -- landings change nothing of what the memory owes

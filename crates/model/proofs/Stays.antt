@@ -1,6 +1,6 @@
 -- Every call keeps a board safe, so that on a board just made refusal 20 never comes. Assumes nothing.
 use Rattle.std.proofs.Common.{◌≡◌, ℕ, zero, suc, eqb, List, [], ◌∷◌, length, replicate, sym, refl, ap, ◌∙◌, subst, arith}
-use Rattle.std.specs.List.{AllByRecursion as All}
+use Rattle.std.specs.List.{AllByRecursion}
 use Rattle.calls.specs.declared.call.Call.{Call}
 use Rattle.calls.specs.declared.call.Call.TheVariants.{Push, Pop, Retire, OwnerStep, HelperStep, Finish, Land}
 use Rattle.memory.specs.Meaning as memory
@@ -62,7 +62,7 @@ pub record KeptSafe {J O : Type 0} (s : State J O) : Type 0 where
   pub sound : Sound s.owner
   pub safe : Safe stolen s
 
-all_aims : (size helpers : ℕ) → All {X = Helper} (λ h. AimFits size h.aim) (replicate helpers (record { aim = ReadFlag }))
+all_aims : (size helpers : ℕ) → AllByRecursion {X = Helper} (λ h. AimFits size h.aim) (replicate helpers (record { aim = ReadFlag }))
 all_aims size zero = tt
 all_aims size (suc helpers) = (tt, all_aims size helpers)
 
@@ -108,7 +108,7 @@ module _ {J O : Type 0} where
   runs_kept start s [] kept runs = subst KeptSafe (sym runs) kept
   runs_kept start s (e ∷ h) kept (before, runs, makes) = (made_kept before s e (runs_kept start before h kept runs) makes).0
 
-  no_misread : (start s : State J O) (h : List (Entry J O)) → KeptSafe start → Runs start h s → All (λ e. refusal_number e.reply.answer ≡ 20 → ⊥) h
+  no_misread : (start s : State J O) (h : List (Entry J O)) → KeptSafe start → Runs start h s → AllByRecursion (λ e. refusal_number e.reply.answer ≡ 20 → ⊥) h
   no_misread start s [] kept runs = tt
   no_misread start s (e ∷ h) kept (before, runs, makes) =
       ((made_kept before s e (runs_kept start before h kept runs) makes).1, no_misread start before h kept runs)

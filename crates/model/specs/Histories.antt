@@ -1,6 +1,6 @@
 -- Histories: the calls of a board since its making, the newest first, and what is counted in them. Assumes nothing.
 use Rattle.std.specs.Prelude.{◌≡◌, ℕ, ◌+◌, ◌-◌, ◌*◌, ◌≤◌, Bool, true, false, cond, List, [], ◌∷◌, length, take, is_some, ◌≢◌}
-use Rattle.std.specs.List.{AllByRecursion as All}
+use Rattle.std.specs.List.{AllByRecursion}
 use Rattle.model.specs.Calls.{Entry, Makes, new_board}
 use Rattle.model.specs.Keeping.{InRange}
 use Rattle.model.specs.Naming.{refusal_number}
@@ -135,7 +135,7 @@ module _ {J O : Type 0} where
 
   -- no call is refused with 20
   abbrev pub NoneMisread : List (Entry J O) → Type 0
-  NoneMisread h = All (λ e. refusal_number e.reply.answer ≢ 20) h
+  NoneMisread h = AllByRecursion (λ e. refusal_number e.reply.answer ≢ 20) h
 
 -- with n helpers, CHANGED answers are at most (n - 1) for each TAKEN answer and n for each of the owner's writes to pair or split
 abbrev pub ChangedIsBounded : (J O : Type 0) → Type 0
@@ -150,7 +150,7 @@ JobsAddUp J O =
 -- on a board just made no call is refused with 20
 abbrev pub NeverMisread : (J O : Type 0) → Type 0
 NeverMisread J O =
-    (start s : State J O) (h : List (Entry J O)) → New start → Runs start h s → All (λ e. refusal_number e.reply.answer ≢ 20) h
+    (start s : State J O) (h : List (Entry J O)) → New start → Runs start h s → AllByRecursion (λ e. refusal_number e.reply.answer ≢ 20) h
 
 -- told ≤ head ≤ size always, and told ≤ own split ≤ head while own flag is 0
 abbrev pub NumbersInRange : (J O : Type 0) → Type 0
