@@ -1,7 +1,9 @@
 -- A helper's step, by the record that the table has of it. Assumes nothing.
-use Rattle.std.proofs.Common.{◌≡◌, ℕ, ◌-◌, List, length, take, Some, None, Option, sym, refl, ap, ◌∙◌, subst}
+use Rattle.std.proofs.Common.{◌≡◌, ℕ, ◌-◌, List, length, take, Some, None, Option, sym, ap, subst}
 use Rattle.std.specs.Option.{option_map}
 use Rattle.calls.specs.declared.call.Call.TheVariants.{HelperStep}
+use Rattle.jobs.specs.declared.job.Job as job_bound
+use Rattle.memory.specs.declared.memory.Memory as memory_bound
 use Rattle.memory.specs.Meaning as memory
 use Rattle.model.specs.Calls.{effect_of}
 use Rattle.model.specs.Helping.{step_aimed, step_of, helper_step}
@@ -26,7 +28,7 @@ by_aim : (x : Option Helper) (aim : Aim) → Some aim ≡ option_map (λ h. h.ai
 by_aim None aim is = none_there aim (sym is)
 by_aim (Some h) aim is = let same : h.aim ≡ aim = cc in ap (λ a. Some (record { aim = a })) same
 
-module _ {M J O : Type 0} (meaning : M → memory.Meaning) (picks : memory.Access → ℕ → memory.Meaning → Type 0) (b : Board M J O) (cells : List (Cell J O)) where
+module _ {M J O : Type 0} {gm : memory_bound.Ghosts M} {gj : job_bound.Ghosts J O} (meaning : M → memory.Meaning) (picks : memory.Access → ℕ → memory.Meaning → Type 0) (b : Board M J O gm gj) (cells : List (Cell J O)) where
   abbrev table : List Helper
   table = take b.helpers b.table
 
@@ -37,7 +39,7 @@ module _ {M J O : Type 0} (meaning : M → memory.Meaning) (picks : memory.Acces
       right_cells picks s (length cells) access.Step (helper_step s helper) r s' same (subst (λ x. Acts picks (step_of s helper x) s r s') (sym (by_aim (at_number table helper) aim known)) acts)
 
   -- the table once the helper's record is written
-  pub written_so : (helper : ℕ) (aim : Aim) (r : Reply J O) (d : Deque M J O) (cells' : List (Cell J O)) (b' : Board M J O) → b'.deque ≡ d → take b'.helpers b'.table ≡ changed table (helper - 1) (λ _. record { aim = aim }) → Acts picks (effect_of (shown meaning b cells) (length cells) (HelperStep helper)) (shown meaning b cells) r (board_of meaning d (changed table (helper - 1) (λ _. record { aim = aim })) cells') → Acts picks (effect_of (shown meaning b cells) (length cells) (HelperStep helper)) (shown meaning b cells) r (shown meaning b' cells')
+  pub written_so : (helper : ℕ) (aim : Aim) (r : Reply J O) (d : Deque M J O) (cells' : List (Cell J O)) (b' : Board M J O gm gj) → b'.deque ≡ d → take b'.helpers b'.table ≡ changed table (helper - 1) (λ _. record { aim = aim }) → Acts picks (effect_of (shown meaning b cells) (length cells) (HelperStep helper)) (shown meaning b cells) r (board_of meaning d (changed table (helper - 1) (λ _. record { aim = aim })) cells') → Acts picks (effect_of (shown meaning b cells) (length cells) (HelperStep helper)) (shown meaning b cells) r (shown meaning b' cells')
   written_so helper aim r d cells' b' same_deque same_table acts =
       let s = shown meaning b cells in
       let e = effect_of s (length cells) (HelperStep helper) in

@@ -1,9 +1,11 @@
 -- What every board keeps: each call leaves the owner's numbers and phase sound. Assumes nothing.
-use Rattle.std.proofs.Common.{◌≡◌, ℕ, ◌≤◌, true, false, cond, eqb, List, length, take, sym, ap, ◌∙◌, subst, eq-eqb}
+use Rattle.std.proofs.Common.{◌≡◌, ℕ, ◌≤◌, false, cond, List, length, take, sym, ap, subst, eq-eqb}
 use mathlib.Core.HLevel.{Π_prop}
 use mathlib.Core.Logic.{∥∥₁_elim, ∥∥₁_prop}
 use native.Mathlib.Bridge.{le_prop}
 use Rattle.calls.specs.declared.call.Call.{Call}
+use Rattle.jobs.specs.declared.job.Job as job_bound
+use Rattle.memory.specs.declared.memory.Memory as memory_bound
 use Rattle.memory.specs.Meaning as memory
 use Rattle.model.specs.Calls.{effect_of, with_cells}
 use Rattle.model.specs.Keeping.{PhaseFits, Sound}
@@ -22,7 +24,7 @@ use Rattle.deque.specs.declared.deque.Deque.{Deque}
 
 module _ {J O : Type 0} where
   -- the facts of a board's type about its owner, as one
-  pub sound_board : {M : Type 0} (b : Board M J O) → ∥ Sound b.deque.owner ∥₁
+  pub sound_board : {M : Type 0} {gm : memory_bound.Ghosts M} {gj : job_bound.Ghosts J O} (b : Board M J O gm gj) → ∥ Sound b.deque.owner ∥₁
   sound_board b =
       ∥∥₁_elim b.fits ∥∥₁_prop (λ fits. ∣ record {
         in_range = record { told_head = b.told_head; head_size = b.head_size; told_split = b.told_split; split_head = b.split_head };
@@ -31,26 +33,26 @@ module _ {J O : Type 0} where
 
   -- and one by one
   abbrev pub Facts : Owner J O → ℕ → List Helper → Type 0
-  Facts o helpers table =
-      (length table ≡ 16) × ((helpers ≤ 16) × ((o.told ≤ o.head) × ((o.head ≤ o.size) × ((o.own_flag ≡ false → o.told ≤ o.own_split) × ((o.own_flag ≡ false → o.own_split ≤ o.head) × ((∥ PhaseFits o.own_flag o.told o.own_split o.head o.phase ∥₁) × Unit {0}))))))
+  Facts o helpers table = record {
+    records : length table ≡ 16;
+    few_helpers : helpers ≤ 16;
+    told_head : o.told ≤ o.head;
+    head_size : o.head ≤ o.size;
+    told_split : o.own_flag ≡ false → o.told ≤ o.own_split;
+    split_head : o.own_flag ≡ false → o.own_split ≤ o.head;
+    fits : ∥ PhaseFits o.own_flag o.told o.own_split o.head o.phase ∥₁;
+  }
 
   pub facts : (o : Owner J O) (helpers : ℕ) (table : List Helper) → length table ≡ 16 → helpers ≤ 16 → ∥ Sound o ∥₁ → Facts o helpers table
-  facts o helpers table full few sound = (
-    full,
-    (
-      few,
-      (
-        ∥∥₁_elim sound le_prop (λ x. x.in_range.told_head),
-        (
-          ∥∥₁_elim sound le_prop (λ x. x.in_range.head_size),
-          (
-            ∥∥₁_elim sound (Π_prop (λ _. le_prop)) (λ x. x.in_range.told_split),
-            (∥∥₁_elim sound (Π_prop (λ _. le_prop)) (λ x. x.in_range.split_head), (∥∥₁_elim sound ∥∥₁_prop (λ x. ∣ x.fits ∣₁), tt)),
-          ),
-        ),
-      ),
-    ),
-  )
+  facts o helpers table full few sound = record {
+    records = full;
+    few_helpers = few;
+    told_head = ∥∥₁_elim sound le_prop (λ x. x.in_range.told_head);
+    head_size = ∥∥₁_elim sound le_prop (λ x. x.in_range.head_size);
+    told_split = ∥∥₁_elim sound (Π_prop (λ _. le_prop)) (λ x. x.in_range.told_split);
+    split_head = ∥∥₁_elim sound (Π_prop (λ _. le_prop)) (λ x. x.in_range.split_head);
+    fits = ∥∥₁_elim sound ∥∥₁_prop (λ x. ∣ x.fits ∣₁);
+  }
 
   -- a call keeps its owner sound
   pub stays_sound : (picks : memory.Access → ℕ → memory.Meaning → Type 0) (s : State J O) (handed : ℕ) (call : Call J O) (r : Reply J O) (s' : State J O) → Acts picks (effect_of s handed call) s r s' → ∥ Sound s.owner ∥₁ → ∥ Sound s'.owner ∥₁
@@ -62,7 +64,7 @@ module _ {J O : Type 0} where
   right_cells picks s handed name e r s' same acts =
       subst (λ b. Acts picks (cond b e (refused s name WrongCells)) s r s') (sym (eq-eqb handed s.owner.size same)) acts
 
-module _ {M J O : Type 0} (meaning : M → memory.Meaning) (picks : memory.Access → ℕ → memory.Meaning → Type 0) (b : Board M J O) (cells : List (Cell J O)) where
+module _ {M J O : Type 0} {gm : memory_bound.Ghosts M} {gj : job_bound.Ghosts J O} (meaning : M → memory.Meaning) (picks : memory.Access → ℕ → memory.Meaning → Type 0) (b : Board M J O gm gj) (cells : List (Cell J O)) where
   abbrev table : List Helper
   table = take b.helpers b.table
 

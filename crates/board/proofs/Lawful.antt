@@ -1,11 +1,12 @@
 -- A call of a board goes on with the history that led to it. Assumes nothing.
-use Rattle.std.proofs.Common.{◌≡◌, ℕ, Bool, true, false, cond, eqb, List, ◌∷◌, length, take, sym, refl, ap, ◌∙◌, subst, eqb-true}
-use borrow.Author.Tests.{eqb-false}
+use Rattle.std.proofs.Common.{◌≡◌, ℕ, Bool, true, false, cond, eqb, List, ◌∷◌, length, sym, refl, ap, subst, eqb-true}
 use Rattle.calls.specs.declared.call.Call.{Call}
 use Rattle.calls.specs.declared.call.Call.TheVariants.{Push, Pop, Retire, OwnerStep, HelperStep, Finish, Land}
+use Rattle.jobs.specs.declared.job.Job as job_bound
+use Rattle.memory.specs.declared.memory.Memory as memory_bound
 use Rattle.memory.specs.Meaning as memory
 use Rattle.model.specs.Calls.{effect_of, with_cells, Entry, Makes}
-use Rattle.model.specs.Histories.{New, Runs}
+use Rattle.model.specs.Histories.{Runs}
 use Rattle.model.specs.Owning.{push, pop, retire, owner_step}
 use Rattle.model.specs.Helping.{helper_step, finish}
 use Rattle.model.specs.State.{State, Effect, Does, refused}
@@ -14,9 +15,8 @@ use Rattle.model.specs.declared.reply.Access.{Access}
 use Rattle.model.specs.declared.reply.Access.TheVariants as access
 use Rattle.model.specs.declared.reply.Refusal.TheVariants.{WrongCells}
 use Rattle.model.specs.declared.reply.Reply.{Reply}
-use Rattle.model.proofs.Lawful.{law}
-use Rattle.deque.specs.Doing.{Acts}
-use Rattle.board.specs.Lawful.{Lawful, own_after, KeepsTheLaw}
+use Rattle.model.proofs.Lawful.{holds_always}
+use Rattle.board.specs.Lawful.{own_after, KeepsTheLaw}
 use Rattle.board.specs.Shown.{shown, Answers}
 use Rattle.board.specs.declared.board.Board.{Board}
 
@@ -25,6 +25,10 @@ by_flag true yes_way no_way = yes_way refl
 by_flag false yes_way no_way = no_way refl
 
 module _ {J O : Type 0} where
+  -- what the call's effect comes to is a call of a run
+  makes_of : (s : State J O) (e : Entry J O) (s' : State J O) → Does (effect_of s e.handed e.call) s e.reply s' → Makes s e s'
+  makes_of s e s' does = record { lands = does.lands; replies = does.replies; moves = does.moves }
+
   -- the same board with other cells
   abbrev with : State J O → List (Cell J O) → State J O
   with s cells = record { memory = s.memory; owner = s.owner; helpers = s.helpers; cells = cells }
@@ -49,15 +53,15 @@ module _ {J O : Type 0} where
   others_with s s' handed (Finish helper outcome) r own wrong does = refused_with s s' access.Finish (finish s helper outcome) (finish (with s own) helper outcome) handed r own wrong does
   others_with s s' handed Land r own wrong does = record { lands = does.lands; replies = does.replies; moves = ap (λ t. with t own) does.moves }
 
-module _ {M J O : Type 0} (meaning : M → memory.Meaning) (picks : memory.Access → ℕ → memory.Meaning → Type 0) (b b' : Board M J O) (call : Call J O) (cells cells' : List (Cell J O)) (r : Reply J O) (answers : Answers meaning picks call b cells r b' cells') where
+module _ {M J O : Type 0} {gm : memory_bound.Ghosts M} {gj : job_bound.Ghosts J O} (meaning : M → memory.Meaning) (picks : memory.Access → ℕ → memory.Meaning → Type 0) (b b' : Board M J O gm gj) (call : Call J O) (cells cells' : List (Cell J O)) (r : Reply J O) (answers : Answers meaning picks call b cells r b' cells') where
   abbrev entry : Entry J O
   entry = record { handed = length cells; call = call; reply = r }
 
   abbrev own_then : List (Cell J O) → List (Cell J O)
   own_then own = own_after (shown meaning b own) cells cells'
 
-  goes_on : (own : List (Cell J O)) → (length cells ≡ b.deque.owner.size → cells ≡ own) → Makes (shown meaning b own) entry (shown meaning b' (own_then own))
-  goes_on own same =
+  does_so : (own : List (Cell J O)) → (length cells ≡ b.deque.owner.size → cells ≡ own) → Does (effect_of (shown meaning b own) (length cells) call) (shown meaning b own) r (shown meaning b' (own_then own))
+  does_so own same =
       by_flag (eqb (length cells) b.deque.owner.size)
       (λ right.
       let own_cells : cells ≡ own = same (eqb-true _ _ right) in
@@ -65,11 +69,14 @@ module _ {M J O : Type 0} (meaning : M → memory.Meaning) (picks : memory.Acces
       (λ wrong.
       subst (λ x. Does (effect_of (shown meaning b own) (length cells) call) (shown meaning b own) r (shown meaning b' (cond x cells' own))) (sym wrong) (others_with (shown meaning b cells) (shown meaning b' cells') (length cells) call r own wrong answers.does))
 
+  goes_on : (own : List (Cell J O)) → (length cells ≡ b.deque.owner.size → cells ≡ own) → Makes (shown meaning b own) entry (shown meaning b' (own_then own))
+  goes_on own same = makes_of (shown meaning b own) entry (shown meaning b' (own_then own)) (does_so own same)
+
   pub keeps_the_law : KeepsTheLaw (shown meaning b) call cells r (shown meaning b') cells'
   keeps_the_law start h own new runs same =
       let then : Runs start (entry ∷ h) (shown meaning b' (own_then own)) = (shown meaning b own, runs, goes_on own same) in
       record {
-        holds = law J O start (shown meaning b own) h new runs;
+        holds = holds_always J O start (shown meaning b own) h new runs;
         reached = then;
-        still_holds = law J O start (shown meaning b' (own_then own)) (entry ∷ h) new then;
+        still_holds = holds_always J O start (shown meaning b' (own_then own)) (entry ∷ h) new then;
       }

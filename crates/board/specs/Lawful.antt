@@ -1,5 +1,5 @@
 -- The law of every run, on a board's call. Assumes nothing.
-use Rattle.std.specs.Prelude.{◌≡◌, ℕ, cond, List, ◌∷◌, length, ◌==◌}
+use Rattle.std.specs.Prelude.{◌≡◌, cond, List, ◌∷◌, length, ◌==◌}
 use Rattle.calls.specs.declared.call.Call.{Call}
 use Rattle.model.specs.Calls.{Entry}
 use Rattle.model.specs.Histories.{New, Runs}

@@ -1,5 +1,4 @@
 use Rattle.std.proofs.Common.{take}
-use Rattle.model.specs.Places.{changed}
 use Rattle.model.specs.declared.reply.Access.TheVariants as access
 use Rattle.deque.specs.Doing.{board_of, refusal_reply}
 use Rattle.board.proofs.Helped.{steps_so, written_so, told_so, same_owner}
