@@ -26,7 +26,7 @@ by_flag false yes_way no_way = no_way refl
 
 module _ {J O : Type 0} where
   -- what the call's effect comes to is a call of a run
-  makes_of : (s : State J O) (e : Entry J O) (s' : State J O) → Does (effect_of s e.handed e.call) s e.reply s' → Makes s e s'
+  pub makes_of : (s : State J O) (e : Entry J O) (s' : State J O) → Does (effect_of s e.handed e.call) s e.reply s' → Makes s e s'
   makes_of s e s' does = record { lands = does.lands; replies = does.replies; moves = does.moves }
 
   -- the same board with other cells

@@ -1,5 +1,5 @@
 -- The day as it goes on, record after record. Assumes nothing.
-use Rattle.std.proofs.Common.{◌≡◌, ℕ, suc, ◌+◌, ◌^◌, ◌<◌, ◌≤◌, List, [], ◌∷◌, ◌++◌, length, Some, None, Ok, Err, Option, Result, sym, refl, ap, ◌∙◌, subst, append_assoc, append-nil, add-one, arith, length-append}
+use Rattle.std.proofs.Common.{◌≡◌, ℕ, suc, ◌+◌, ◌^◌, ◌<◌, ◌≤◌, List, [], ◌∷◌, ◌++◌, length, Some, Ok, Err, Option, Result, sym, refl, ap, ◌∙◌, subst, append_assoc, append-nil, add-one, arith, length-append}
 use Rattle.calls.specs.Calls.{party_of}
 use Rattle.calls.specs.declared.call.Call.{Call}
 use Rattle.calls.specs.declared.party.Party.{Party}
@@ -9,6 +9,7 @@ use Rattle.dayfile.specs.Reading.{file_of, at_start, unread, gave, Moves}
 use Rattle.dayfile.specs.declared.fault.FileFault.{FileFault}
 use Rattle.dayfile.specs.declared.reader.Reader.{Reader}
 use Rattle.dayfile.proofs.Along.{Along, along_start, along_next, along_end, along_fault}
+use Rattle.board.proofs.Lawful.{makes_of}
 use Rattle.deque.specs.Doing.{Acts}
 use Rattle.jobs.specs.Form.{Form}
 use Rattle.line.specs.Lines.{line_of}
@@ -26,7 +27,7 @@ use Rattle.runner.specs.declared.fault.DayFault.TheVariants.{File, NoMemory}
 -- a run of one memory is a run of any
 pub runs_of : {J O : Type 0} (picks : memory.Access → ℕ → memory.Meaning → Type 0) (start : State J O) (h : List (Entry J O)) (s : State J O) → RunsBy picks start h s → Runs start h s
 runs_of picks start [] s runs = runs
-runs_of picks start (e ∷ h) s (before, runs, own, acts) = (before, runs_of picks start h before runs, acts.does)
+runs_of picks start (e ∷ h) s (before, runs, own, acts) = (before, runs_of picks start h before runs, makes_of before e s acts.does)
 
 -- as many calls were asked as made
 pub asked_long : {J O : Type 0} (h : List (Entry J O)) → length (asked h) ≡ length h

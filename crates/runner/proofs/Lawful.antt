@@ -1,5 +1,5 @@
 -- Every day is a run of a board just made. Assumes nothing.
-use Rattle.std.proofs.Common.{◌≡◌, ℕ, zero, suc, ◌+◌, ◌-◌, ◌<◌, ◌≤◌, min, Bool, true, false, cond, eqb, List, [], ◌∷◌, ◌++◌, length, drop, replicate, Ok, Err, Result, sym, refl, ap, ◌∙◌, subst, append_assoc, append-nil, arith, length-append, length-drop, eqb-true}
+use Rattle.std.proofs.Common.{◌≡◌, ℕ, suc, ◌+◌, ◌-◌, ◌≤◌, min, Bool, true, false, cond, eqb, List, [], ◌∷◌, ◌++◌, length, replicate, Ok, Err, Result, sym, refl, ap, ◌∙◌, subst, append_assoc, append-nil, arith, length-append, length-drop}
 use borrow.Author.Tests.{eqb-false}
 use lib.ListN.{length-replicate}
 use Rattle.board.proofs.Made.{is_new}
@@ -17,12 +17,11 @@ use Rattle.jobs.specs.Card.{card_form, balance_form}
 use Rattle.jobs.specs.Form.{Form}
 use Rattle.jobs.specs.Label.{label_form, printed_form}
 use Rattle.line.specs.Lines.{line_of}
-use Rattle.memory.specs.Kept.{direct_lands, queued_lands}
 use Rattle.memory.specs.Meaning as memory
 use Rattle.model.specs.Calls.{Entry, effect_of}
 use Rattle.model.specs.Histories.{New, Runs}
 use Rattle.model.specs.State.{State}
-use Rattle.model.proofs.Lawful.{law}
+use Rattle.model.proofs.Lawful.{holds_always}
 use Rattle.text.specs.Content.{line}
 use Rattle.runner.specs.Days.{reply_by, after_by, lines_by, lands_in, blank, blank_card, blank_label, start_of, calls_in, day_by, day_under, day_of}
 use Rattle.runner.specs.Lawful.{LawfulLines, lawful_by, lawful_under, LawfulDay}
@@ -106,7 +105,7 @@ module _ {J O : Type 0} (job : Form J) (outcome : Form O) (kind : MemoryKind) (s
         runs = gone.runs;
         asks = gone.asks;
         prints = gone.prints;
-        holds = law J O start gone.last gone.history new gone.runs;
+        holds = holds_always J O start gone.last gone.history new gone.runs;
       }
 
 module _ {J O : Type 0} (job : Form J) (outcome : Form O) (any : J) (settings : Settings) (bounds : InBounds settings) where

@@ -1,9 +1,8 @@
 -- Where a memory's picks say how many writes land, a day's lines are defined. Assumes nothing.
-use Rattle.std.proofs.Common.{◌≡◌, ℕ, suc, ◌+◌, List, [], ◌∷◌, ◌++◌, length, Some, None, Ok, Err, Option, Result, sym, refl, ap, ◌∙◌, subst, append_assoc, append-nil, arith}
+use Rattle.std.proofs.Common.{◌≡◌, ℕ, suc, ◌+◌, List, [], ◌∷◌, ◌++◌, length, Ok, Err, Result, sym, refl, ap, ◌∙◌, subst, append_assoc, append-nil, arith}
 use Rattle.calls.specs.Calls.{party_of}
 use Rattle.calls.specs.declared.call.Call.{Call}
 use Rattle.dayfile.specs.Holding.{Held}
-use Rattle.dayfile.specs.declared.fault.FileFault.{FileFault}
 use Rattle.deque.specs.Doing.{Acts}
 use Rattle.jobs.specs.Form.{Form}
 use Rattle.line.specs.Lines.{line_of}

@@ -1,5 +1,5 @@
 -- The day's start: its cells, and the board just made. Assumes nothing.
-use Rattle.std.proofs.Common.{◌≡◌, ℕ, ◌≤◌, List, [], replicate, Ok, Err, Result, sym, refl, ap, ◌∙◌, subst, append-nil, arith}
+use Rattle.std.proofs.Common.{◌≡◌, ℕ, ◌≤◌, List, [], replicate, Err, Result, sym, refl, ap, ◌∙◌, subst, append-nil, arith}
 use Rattle.board.specs.Making.{made_answer, made_board}
 use Rattle.board.proofs.Made.{making_made}
 use Rattle.dayfile.specs.Holding.{Held}

@@ -1,8 +1,7 @@
 -- The whole day, from the board's record on. Assumes nothing.
-use Rattle.std.proofs.Common.{◌≡◌, ℕ, true, List, [], ◌++◌, Some, None, Ok, Err, Option, Result, sym, refl, ap, ◌∙◌, subst, append_assoc, append-nil}
+use Rattle.std.proofs.Common.{◌≡◌, ℕ, true, List, [], ◌++◌, Some, Ok, Err, Option, Result, sym, refl, ap, ◌∙◌, subst, append_assoc, append-nil}
 use Rattle.dayfile.specs.Faults.{refusal_line}
 use Rattle.dayfile.specs.Format.{settings_from, placed}
-use Rattle.dayfile.specs.Holding.{Held}
 use Rattle.dayfile.specs.Reading.{file_of, at_start, unread, Moves}
 use Rattle.dayfile.specs.declared.fault.FileFault.{FileFault}
 use Rattle.dayfile.specs.declared.reader.Reader.{Reader}

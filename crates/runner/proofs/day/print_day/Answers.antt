@@ -1,5 +1,4 @@
-use Rattle.std.proofs.Common.{◌≡◌, Err, vec_items}
-use Rattle.dayfile.specs.declared.fault.FileFault.{FileFault}
+use Rattle.std.proofs.Common.{Err, vec_items}
 use Rattle.runner.specs.Days.{day_of}
 use Rattle.runner.proofs.Whole.{refusal_printed, not_of_a_file, other_end}
 use Rattle.runner.proofs.day.print_day.Goals as goal

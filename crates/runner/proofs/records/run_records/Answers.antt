@@ -15,8 +15,8 @@ returns-in_err-next g c =
 pub returns-in_default : goal.returns-in_default
 returns-in_default g c = record { ran = at_end _ _ _ _ _ _ _ _ _ _ _ c.loop-next.invariant _ c.in_default.not-Some c.in_ok-next.ensures.answer }
 
-pub overflow-add-number : goal.overflow-add-number
-overflow-add-number g c = let few = few_calls _ _ _ _ _ _ _ _ _ _ _ c.loop-next.invariant c.requires.short in search rules
+pub overflow_add-number : goal.overflow_add-number
+overflow_add-number g c = let few = few_calls _ _ _ _ _ _ _ _ _ _ _ c.loop-next.invariant c.requires.short in search rules
 
 pub loop-next-preserved : goal.loop-next-preserved
 loop-next-preserved g c =
