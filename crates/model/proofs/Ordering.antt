@@ -132,8 +132,8 @@ module _ {J O : Type 0} (size : ℕ) (h : List (Entry J O)) (st : Stage J O) (b 
   abbrev Held : Place J O → Type 0
   Held p = ((op : Operation J O) × (ending ≡ Some op) × (Places op p)) ⊎ UnderWay (e ∷ h) p
 
-  abbrev Goes_on : Type 0
-  Goes_on = (p : Place J O) → In p order → UnderWay h p → Held p
+  abbrev GoesOn : Type 0
+  GoesOn = (p : Place J O) → In p order → UnderWay h p → Held p
 
   abbrev Next : Stage J O → Plain J O → Type 0
   Next st' b' = (more : List (Place J O)) × Kept size (e ∷ h) st' b' (more ++ order)
@@ -160,7 +160,7 @@ module _ {J O : Type 0} (size : ℕ) (h : List (Entry J O)) (st : Stage J O) (b 
   all_found order' found wider op (inr before) = let (p, among, its) = kept.all op before in (p, wider p among, its)
 
   -- a call that places nothing
-  quiet : (st' : Stage J O) (b' : Plain J O) → b' ≡ b → Standing st' (owner_begun (e ∷ h)) n order → Attempting (λ k. attempt_begun k (e ∷ h)) n order → Found order → Goes_on → Next st' b'
+  quiet : (st' : Stage J O) (b' : Plain J O) → b' ≡ b → Standing st' (owner_begun (e ∷ h)) n order → Attempting (λ k. attempt_begun k (e ∷ h)) n order → Found order → GoesOn → Next st' b'
   quiet st' b' same stands attempts found on = (
     [],
     record {
@@ -175,7 +175,7 @@ module _ {J O : Type 0} (size : ℕ) (h : List (Entry J O)) (st : Stage J O) (b 
   )
 
   -- a call that places an operation
-  adds : (st' : Stage J O) (b' : Plain J O) (p : Place J O) → p.at ≡ n → p.first ≤ n → Fresh p.till p.first order → does b p.deed ≡ Some (record { answer = p.answer; board = b' }) → Standing st' (owner_begun (e ∷ h)) n (p ∷ order) → Attempting (λ k. attempt_begun k (e ∷ h)) n (p ∷ order) → Found (p ∷ order) → Held p → Goes_on → Next st' b'
+  adds : (st' : Stage J O) (b' : Plain J O) (p : Place J O) → p.at ≡ n → p.first ≤ n → Fresh p.till p.first order → does b p.deed ≡ Some (record { answer = p.answer; board = b' }) → Standing st' (owner_begun (e ∷ h)) n (p ∷ order) → Attempting (λ k. attempt_begun k (e ∷ h)) n (p ∷ order) → Found (p ∷ order) → Held p → GoesOn → Next st' b'
   adds st' b' p now early fresh answers stands attempts found held on = (
     p ∷ [],
     record {
@@ -199,10 +199,10 @@ module _ {J O : Type 0} (size : ℕ) (h : List (Entry J O)) (st : Stage J O) (b 
   found_here : (p : Place J O) (op : Operation J O) → ending ≡ Some op → Places op p → Found (p ∷ order)
   found_here p op is its op' is' = let same : op ≡ op' = cc in (p, inl refl, subst (λ (x : Operation J O). Places x p) same its)
 
-  goes_on_same : SameOwner → Goes_on
+  goes_on_same : SameOwner → GoesOn
   goes_on_same same p among goes = inr (record { till = goes.till; begun = same ∙ goes.begun; after_first = goes.after_first })
 
-  goes_on_none : owner_begun h ≡ None → Goes_on
+  goes_on_none : owner_begun h ≡ None → GoesOn
   goes_on_none none p among goes = no_some (owner_begun h) _ none goes.begun
 
   attempting_same : (p : Place J O) → SameAttempts → ((k : ℕ) → p.till ≡ Helper k → p.first ≡ n) → Attempting (λ k. attempt_begun k (e ∷ h)) n (p ∷ order)

@@ -27,7 +27,7 @@ use Rattle.model.proofs.Entries.{length_changed}
 use Rattle.model.proofs.Keeping.{idle_is}
 use Rattle.model.proofs.Ways.{by_test, never, all_two}
 use Rattle.model.proofs.Modes.{Quiet, Mode, mode_quiet, quiet_opens, settled_tail, fence_shows, settled_landed, settled_joins}
-use Rattle.model.proofs.Safe.{shared, idle_need, need, MemoryFits, idle_numbers, Numbers, AimFits, Safe, given_up, fits_lands, write_shared, write_quiet, rest_numbers}
+use Rattle.model.proofs.Safe.{shared, idle_need, need, MemoryFits, IdleNumbers, Numbers, AimFits, Safe, given_up, fits_lands, write_shared, write_quiet, rest_numbers}
 
 -- the call leads to a safe board, and does not refuse with 20
 pub record Goes {J O : Type 0} (stolen : ℕ) (s : State J O) (e : Effect J O) (n : ℕ) : Type 0 where
@@ -83,7 +83,7 @@ module _ {J O : Type 0} (s : State J O) (R : ℕ) (sound : Sound s.owner) (safe 
   to_rest name touches answer open_flag fits low fine =
       on touches name answer (with_phase o Idle) R refl safe.told
       (subst (λ f. MemoryFits o.size R (memory.after touches n s.memory) (idle_need f o.own_split)) (sym open_flag) fits)
-      (subst (λ f. idle_numbers f R o.own_split o.head) (sym open_flag) low) fine
+      (subst (λ f. IdleNumbers f R o.own_split o.head) (sym open_flag) low) fine
 
   abbrev Fits : Phase J O → Type 0
   Fits p = PhaseFits o.own_flag o.told o.own_split o.head p
@@ -185,7 +185,7 @@ module _ {J O : Type 0} (s : State J O) (R : ℕ) (sound : Sound s.owner) (safe 
   step_goes (Retiring outcome) fits owes stands may =
       on (memory.puts (write.Flag true)) access.WriteFlag (Retired outcome) (with_phase o Idle) R refl safe.told
       (subst (λ f. MemoryFits o.size R (memory.oldest_landed n (memory.queued_up (write.Flag true) s.memory)) (idle_need f o.own_split)) (sym fits) (write_quiet o.size R n s.memory true owes))
-      (subst (λ f. idle_numbers f R o.own_split o.head) (sym fits) stands) (λ is. omega arith)
+      (subst (λ f. IdleNumbers f R o.own_split o.head) (sym fits) stands) (λ is. omega arith)
 
   begun_goes : (R' : ℕ) (name : Access) (e : Effect J O) → (idle o.phase ≡ true → Goes R' s e n) → (idle o.phase ≡ false → R' ≡ R) → Goes R' s (begun s name e) n
   begun_goes R' name e goes busy =
@@ -200,7 +200,7 @@ module _ {J O : Type 0} (s : State J O) (R : ℕ) (sound : Sound s.owner) (safe 
   rest_owes : (p : Phase J O) (R' : ℕ) (σ head : ℕ) (m : memory.Meaning) → idle p ≡ true → MemoryFits o.size R' m (idle_need o.own_flag σ) → MemoryFits o.size R' m (need o.own_flag σ head p)
   rest_owes p R' σ head m is owes = subst (λ q. MemoryFits o.size R' m (need o.own_flag σ head q)) (sym (idle_is p is)) owes
 
-  rest_stands : (p : Phase J O) (R' σ head : ℕ) → idle p ≡ true → idle_numbers o.own_flag R' σ head → Numbers o.own_flag R' σ head p
+  rest_stands : (p : Phase J O) (R' σ head : ℕ) → idle p ≡ true → IdleNumbers o.own_flag R' σ head → Numbers o.own_flag R' σ head p
   rest_stands p R' σ head is stands = subst (Numbers o.own_flag R' σ head) (sym (idle_is p is)) stands
 
   module _ (rest : idle o.phase ≡ true) where
@@ -208,13 +208,13 @@ module _ {J O : Type 0} (s : State J O) (R : ℕ) (sound : Sound s.owner) (safe 
     shut_memory shut = subst (λ f. MemoryFits o.size R s.memory (idle_need f o.own_split)) shut (rest_memory o.phase rest safe.memory)
 
     shut_numbers : o.own_flag ≡ true → R ≡ o.head
-    shut_numbers shut = subst (λ f. idle_numbers f R o.own_split o.head) shut (rest_numbers o.own_flag R o.own_split o.head o.phase rest safe.numbers)
+    shut_numbers shut = subst (λ f. IdleNumbers f R o.own_split o.head) shut (rest_numbers o.own_flag R o.own_split o.head o.phase rest safe.numbers)
 
     open_memory : o.own_flag ≡ false → MemoryFits o.size R s.memory (shared o.own_split o.own_split)
     open_memory shared_flag = subst (λ f. MemoryFits o.size R s.memory (idle_need f o.own_split)) shared_flag (rest_memory o.phase rest safe.memory)
 
     open_numbers : o.own_flag ≡ false → R ≤ o.own_split
-    open_numbers shared_flag = subst (λ f. idle_numbers f R o.own_split o.head) shared_flag (rest_numbers o.own_flag R o.own_split o.head o.phase rest safe.numbers)
+    open_numbers shared_flag = subst (λ f. IdleNumbers f R o.own_split o.head) shared_flag (rest_numbers o.own_flag R o.own_split o.head o.phase rest safe.numbers)
 
   pub push_goes : (job : J) → Goes R s (push s job) n
   push_goes job =
@@ -255,7 +255,7 @@ module _ {J O : Type 0} (s : State J O) (R : ℕ) (sound : Sound s.owner) (safe 
       let all = shut_numbers rest shut in
       on memory.reads access.Retire (Retired outcome) (lowered s) (R - 1) refl (omega arith)
       (rest_owes o.phase (R - 1) o.own_split (o.head - 1) s.memory rest (subst (λ f. MemoryFits o.size (R - 1) s.memory (idle_need f o.own_split)) (sym shut) (shut_memory rest shut)))
-      (rest_stands o.phase (R - 1) o.own_split (o.head - 1) rest (subst (λ f. idle_numbers f (R - 1) o.own_split (o.head - 1)) (sym shut) (omega arith)))
+      (rest_stands o.phase (R - 1) o.own_split (o.head - 1) rest (subst (λ f. IdleNumbers f (R - 1) o.own_split (o.head - 1)) (sym shut) (omega arith)))
       (λ no. omega arith))
       (λ shared_flag.
       let high = range.split_head shared_flag in

@@ -50,14 +50,14 @@ abbrev pub MemoryFits : ℕ → ℕ → memory.Meaning → Need → Type 0
 MemoryFits size R m quiet = Quiet size m
 MemoryFits size R m (shared B S) = Mode size R B m × ((memory.settled m).split ≡ S)
 
-abbrev pub idle_numbers : Bool → ℕ → ℕ → ℕ → Type 0
-idle_numbers true R split head = R ≡ head
-idle_numbers false R split head = R ≤ split
+abbrev pub IdleNumbers : Bool → ℕ → ℕ → ℕ → Type 0
+IdleNumbers true R split head = R ≡ head
+IdleNumbers false R split head = R ≤ split
 
 module _ {J O : Type 0} where
   -- where the stolen positions end, in each phase
   abbrev pub Numbers : (flag : Bool) (R split head : ℕ) → Phase J O → Type 0
-  Numbers flag R split head Idle = idle_numbers flag R split head
+  Numbers flag R split head Idle = IdleNumbers flag R split head
   Numbers flag R split head (Opening open_at.WritePair) = R + 1 ≡ head
   Numbers flag R split head (Opening open_at.WriteFlag) = (R ≤ head) × (head ≤ R + 1)
   Numbers flag R split head (Opening open_at.ReadRequest) = R ≤ split
@@ -158,5 +158,5 @@ module _ {J O : Type 0} where
   need_bound flag told split head (Retiring outcome) fits low = omega arith
 
   -- with no operation under way the board is shut or open
-  pub rest_numbers : (flag : Bool) (R split head : ℕ) (p : Phase J O) → idle p ≡ true → Numbers flag R split head p → idle_numbers flag R split head
+  pub rest_numbers : (flag : Bool) (R split head : ℕ) (p : Phase J O) → idle p ≡ true → Numbers flag R split head p → IdleNumbers flag R split head
   rest_numbers flag R split head p is numbers = subst (Numbers flag R split head) (idle_is p is) numbers

@@ -36,7 +36,7 @@ use Rattle.model.proofs.Entries.{numbered, number_positive, number_of, take_at, 
 use Rattle.model.proofs.Events.{Stage, resting, unplaced, placed, stage, Event, nothing, places, StepAllowed, AttemptAllowed, Allowed, Happens}
 use Rattle.model.proofs.Ways.{by_test, never, below}
 use Rattle.model.proofs.Modes.{quiet_no_swap, mode_swap, settled_tail}
-use Rattle.model.proofs.Safe.{Need, quiet, shared, need, MemoryFits, idle_numbers, Numbers, Safe, next_stolen, bound, need_bound, rest_numbers}
+use Rattle.model.proofs.Safe.{Need, quiet, shared, need, MemoryFits, IdleNumbers, Numbers, Safe, next_stolen, bound, need_bound, rest_numbers}
 
 abbrev holding : Aim → Bool
 holding ReadFlag = false
@@ -212,7 +212,7 @@ module _ {J O : Type 0} (s : State J O) (R : ℕ) (sound : Sound s.owner) (safe 
       let numbers = rest_numbers o.own_flag R o.own_split head o.phase rest safe.numbers in
       by_test (Follows Pop) o.own_flag _ _
       (λ shut.
-      let all : R ≡ head = subst (λ f. idle_numbers f R o.own_split head) shut numbers in
+      let all : R ≡ head = subst (λ f. IdleNumbers f R o.own_split head) shut numbers in
       record {
         event = places pops Stolen;
         allowed = (resting_now, resting_now, refl);
@@ -221,7 +221,7 @@ module _ {J O : Type 0} (s : State J O) (R : ℕ) (sound : Sound s.owner) (safe 
         job = cells_fit.job;
       })
       (λ open_flag.
-      let low : R ≤ o.own_split = subst (λ f. idle_numbers f R o.own_split head) open_flag numbers in
+      let low : R ≤ o.own_split = subst (λ f. IdleNumbers f R o.own_split head) open_flag numbers in
       by_test (Follows Pop) (ltb o.own_split o.head) _ _
       (λ private.
       let less : R < head = omega (arith, ltb-true _ _ private) in

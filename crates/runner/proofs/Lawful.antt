@@ -24,7 +24,7 @@ use Rattle.model.specs.State.{State}
 use Rattle.model.proofs.Lawful.{holds_always}
 use Rattle.text.specs.Content.{line}
 use Rattle.runner.specs.Days.{reply_by, after_by, lines_by, lands_in, blank, blank_card, blank_label, start_of, calls_in, day_by, day_under, day_of}
-use Rattle.runner.specs.Lawful.{LawfulLines, lawful_by, lawful_under, LawfulDay}
+use Rattle.runner.specs.Lawful.{LawfulLines, LawfulBy, LawfulUnder, LawfulDay}
 use Rattle.runner.specs.Running.{asked, printed}
 
 -- so few writes wait in each memory
@@ -116,13 +116,13 @@ module _ {J O : Type 0} (job : Form J) (outcome : Form O) (any : J) (settings : 
   pub lawful_on : (calls : List (Call J O)) → LawfulLines job outcome (start_of job outcome any settings) calls (lines_by (lands_in settings.memory) job outcome (start_of job outcome any settings) 1 calls)
   lawful_on calls = lawful_run job outcome settings.memory (start_of job outcome any settings) starts_new refl calls
 
-by_kind : (kind : JobKind) (settings : Settings) (file : List ℕ) → InBounds settings → day_of file ≡ day_by kind settings file → lawful_by kind settings file
+by_kind : (kind : JobKind) (settings : Settings) (file : List ℕ) → InBounds settings → day_of file ≡ day_by kind settings file → LawfulBy kind settings file
 by_kind Cards settings file bounds day =
     subst (LawfulLines card_form balance_form _ _) (sym (ap (λ d. d.lines) day)) (lawful_on card_form balance_form blank_card settings bounds (calls_in card_form balance_form file).calls)
 by_kind Labels settings file bounds day =
     subst (LawfulLines label_form printed_form _ _) (sym (ap (λ d. d.lines) day)) (lawful_on label_form printed_form blank_label settings bounds (calls_in label_form printed_form file).calls)
 
-under : (x : Result Settings FileRefusal) (file : List ℕ) → settings_from true file ≡ x → lawful_under x file
+under : (x : Result Settings FileRefusal) (file : List ℕ) → settings_from true file ≡ x → LawfulUnder x file
 under (Ok settings) file is = by_kind settings.jobs settings file (in_bounds true file settings is) (ap (λ x. day_under x file) is)
 under (Err refusal) file is = tt
 

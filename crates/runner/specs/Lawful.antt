@@ -27,17 +27,17 @@ module _ {J O : Type 0} (job : Form J) (outcome : Form O) where
     pub prints : printed job outcome history ≡ lines
     pub holds : Holds start history last
 
-abbrev pub lawful_by : JobKind → Settings → List ℕ → Type 0
-lawful_by Cards settings file =
+abbrev pub LawfulBy : JobKind → Settings → List ℕ → Type 0
+LawfulBy Cards settings file =
     LawfulLines card_form balance_form (start_of card_form balance_form blank_card settings) (calls_in card_form balance_form file).calls (day_of file).lines
-lawful_by Labels settings file =
+LawfulBy Labels settings file =
     LawfulLines label_form printed_form (start_of label_form printed_form blank_label settings) (calls_in label_form printed_form file).calls (day_of file).lines
 
 -- a file whose board is refused has no calls
-abbrev pub lawful_under : Result Settings FileRefusal → List ℕ → Type 0
-lawful_under (Ok settings) file = lawful_by settings.jobs settings file
-lawful_under (Err refusal) file = Unit {0}
+abbrev pub LawfulUnder : Result Settings FileRefusal → List ℕ → Type 0
+LawfulUnder (Ok settings) file = LawfulBy settings.jobs settings file
+LawfulUnder (Err refusal) file = Unit {0}
 
 -- what any file's calls print
 abbrev pub LawfulDay : List ℕ → Type 0
-LawfulDay file = lawful_under (settings_from true file) file
+LawfulDay file = LawfulUnder (settings_from true file) file
