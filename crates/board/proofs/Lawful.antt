@@ -1,5 +1,5 @@
 -- A call of a board goes on with the history that led to it. Assumes nothing.
-use Rattle.std.proofs.Common.{◌≡◌, ℕ, Bool, true, false, cond, eqb, List, ◌∷◌, length, sym, refl, ap, subst, eqb-true}
+use Rattle.std.proofs.Common.{◌≡◌, ℕ, false, cond, eqb, List, ◌∷◌, length, sym, ap, subst, eqb-true}
 use Rattle.calls.specs.declared.call.Call.{Call}
 use Rattle.calls.specs.declared.call.Call.TheVariants.{Push, Pop, Retire, OwnerStep, HelperStep, Finish, Land}
 use Rattle.jobs.specs.declared.job.Job as job_bound
@@ -15,14 +15,11 @@ use Rattle.model.specs.declared.reply.Access.{Access}
 use Rattle.model.specs.declared.reply.Access.TheVariants as access
 use Rattle.model.specs.declared.reply.Refusal.TheVariants.{WrongCells}
 use Rattle.model.specs.declared.reply.Reply.{Reply}
+use Rattle.model.proofs.Entries.{by_flag}
 use Rattle.model.proofs.Lawful.{holds_always}
 use Rattle.board.specs.Lawful.{own_after, KeepsTheLaw}
 use Rattle.board.specs.Shown.{shown, Answers}
 use Rattle.board.specs.declared.board.Board.{Board}
-
-by_flag : {P : Type 0} (b : Bool) → (b ≡ true → P) → (b ≡ false → P) → P
-by_flag true yes_way no_way = yes_way refl
-by_flag false yes_way no_way = no_way refl
 
 module _ {J O : Type 0} where
   -- what the call's effect comes to is a call of a run

@@ -37,6 +37,7 @@ pub trait Job: Copy {
     fn print_outcome(value: Self::Outcome, out: &mut Text)
         ensures prints { Prints outcome value out.old out.new };
 
+    // The two laws, which every `impl` proves: what a job or an outcome is encoded as, it is decoded from.
     ghost job_reads_back: { ReadsBack form };
 
     ghost outcome_reads_back: { ReadsBack outcome };

@@ -57,6 +57,6 @@ pub trait Memory {
         ensures picks { picks lands result (meaning self.old) }
         ensures after { meaning self.new ≡ after lands result (meaning self.old) };
 
-    // A store queue is short, so that a `u8` counts what lands.
+    // A law, which every `impl` proves: a store queue is short, so that a `u8` counts what lands.
     ghost few: { (m : Self) → length (meaning m).waiting ≤ 64 };
 }

@@ -9,7 +9,7 @@ use Rattle.model.specs.declared.cell.Cell.{Cell}
 pub none_there : {X P : Type 0} (x : X) → None ≡ Some x → P
 none_there x is = absurd (let z : ◌≡◌ {A = ℕ} 0 1 = cc in omega arith)
 
-by_flag : {P : Type 0} (b : Bool) → (b ≡ true → P) → (b ≡ false → P) → P
+pub by_flag : {P : Type 0} (b : Bool) → (b ≡ true → P) → (b ≡ false → P) → P
 by_flag true yes_way no_way = yes_way refl
 by_flag false yes_way no_way = no_way refl
 
