@@ -3,9 +3,12 @@ ghost use Rattle.std.specs.Prelude.{◌≡◌, ◌≤◌, length};
 
 mod pieces;
 
+const CAPACITY: usize = 80;
+
 #[derive(Clone, Copy)]
 pub struct Text {
-    bytes: [u8; 80],
+    // An array with its length beside it, and no ArrayVec: a text is Copy, which an ArrayVec is not.
+    bytes: [u8; CAPACITY],
     len: usize,
     ghost room: { length bytes ≡ 80 },
     ghost within: { len ≤ 80 },

@@ -1,19 +1,19 @@
-// How a text is gathered: a byte, a string, a number or a signed number at a time.
-ghost use Rattle.std.specs.Prelude.{◌≡◌, ◌≤◌, [], ◌∷◌, length, decimal};
-ghost use Rattle.std.specs.Fmt.{signed_decimal};
+// How a text is gathered: a byte, a string or a number at a time.
+ghost use Rattle.std.specs.Prelude.{◌≡◌, ◌≤◌, [], ◌∷◌, length};
 ghost use Rattle.text.specs.Content.{content, Gains};
 
-use super::Text;
+use super::{CAPACITY, Text};
+use itoa::{Buffer, Integer};
 
 impl Text {
     // The most bytes that a text holds.
-    pub const CAPACITY: usize = 80;
+    pub const CAPACITY: usize = CAPACITY;
 
     pub fn new() -> Text
         ensures empty { content result ≡ [] }
     {
         Text {
-            bytes: [0; Text::CAPACITY],
+            bytes: [0; CAPACITY],
             len: 0,
         }
     }
@@ -21,71 +21,31 @@ impl Text {
     pub fn as_bytes(&self) -> &[u8]
         ensures content { result.now ≡ content self.now }
     {
-        &self.bytes[0..self.len]
+        &self.bytes[..self.len]
     }
 
     pub fn push(&mut self, byte: u8)
         ensures gains { Gains self.old (byte ∷ []) self.new }
     {
-        self.put(byte);
-    }
-
-    pub fn push_str(&mut self, piece: &str)
-        ensures gains { Gains self.old piece.now self.new }
-    {
-        self.put_all(piece.as_bytes());
-    }
-
-    // The number's decimal digits, with no leading zero.
-    pub fn push_number(&mut self, number: u64)
-        ensures gains { Gains self.old (decimal number) self.new }
-        ensures short { length (decimal number) ≤ 20 }
-    {
-        self.put_digits(number);
-    }
-
-    // The same with a minus before a number below zero.
-    pub fn push_signed(&mut self, number: i32)
-        ensures gains { Gains self.old (signed_decimal number) self.new }
-        ensures short { length (signed_decimal number) ≤ 20 }
-    {
-        self.put_signed(number as i64);
-    }
-
-    fn put(&mut self, byte: u8)
-        ensures gains { Gains self.old (byte ∷ []) self.new }
-    {
-        if self.len < Text::CAPACITY {
+        if self.len < CAPACITY {
             self.bytes[self.len] = byte;
             self.len += 1;
         }
     }
 
-    fn put_all(&mut self, piece: &[u8])
+    pub fn push_str(&mut self, piece: &str)
         ensures gains { Gains self.old piece.now self.new }
     {
-        for byte in piece {
-            self.put(*byte);
+        for byte in piece.bytes() {
+            self.push(byte);
         }
     }
 
-    fn put_digits(&mut self, number: u64)
-        ensures gains { Gains self.old (decimal number) self.new }
-        ensures short { length (decimal number) ≤ 20 }
+    // The number's decimal digits, with no leading zero, and a minus before a number below zero.
+    pub fn push_number<I: Integer>(&mut self, number: I)
+        ensures gains { Gains self.old (I.text number) self.new }
+        ensures short { length (I.text number) ≤ I.MAX_STR_LEN }
     {
-        if number >= 10 {
-            self.put_digits(number / 10);
-        }
-        self.put(b'0' + (number % 10) as u8);
-    }
-
-    fn put_signed(&mut self, number: i64)
-        ensures gains { Gains self.old (signed_decimal number) self.new }
-        ensures short { length (signed_decimal number) ≤ 20 }
-    {
-        if number < 0 {
-            self.put(b'-');
-        }
-        self.put_digits(number.unsigned_abs());
+        self.push_str(Buffer::new().format(number));
     }
 }

@@ -1,5 +1,5 @@
 use Rattle.text.proofs.Fitting.{one_fits, none_fits}
-use Rattle.text.proofs.text.Text.put.Goals as goal
+use Rattle.text.proofs.text.Text.push.Goals as goal
 
 pub returns-then-self-lt-CAPACITY : goal.returns-then-self-lt-CAPACITY
 returns-then-self-lt-CAPACITY c = record {
