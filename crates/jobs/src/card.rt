@@ -1,4 +1,5 @@
 // Card jobs: award points to a card, or issue or withdraw a voucher. The outcome is the card's balance.
+ghost use Rattle.std.specs.Prelude.{refl};
 ghost use Rattle.jobs.specs.Card.{card_form, balance_form};
 ghost use Rattle.jobs.specs.Back.{cards_back, balances_back};
 
@@ -20,23 +21,23 @@ impl Job for CardJob {
 
     const JOB_BYTES: usize = 9;
 
+    ghost JOB_BYTES = { 9 };
+
     const OUTCOME_BYTES: usize = 4;
+
+    ghost OUTCOME_BYTES = { 4 };
 
     ghost form = { card_form };
 
     ghost outcome = { balance_form };
 
+    ghost job_bytes = { refl };
+
+    ghost outcome_bytes = { refl };
+
     ghost job_reads_back = { cards_back };
 
     ghost outcome_reads_back = { balances_back };
-
-    fn width() -> usize {
-        CardJob::JOB_BYTES
-    }
-
-    fn outcome_width() -> usize {
-        CardJob::OUTCOME_BYTES
-    }
 
     fn decode(bytes: &[u8]) -> Result<CardJob, JobFault> {
         if bytes.len() != CardJob::JOB_BYTES {
@@ -77,6 +78,6 @@ impl Job for CardJob {
     }
 
     fn print_outcome(value: i32, out: &mut Text) {
-        out.push_signed(value);
+        out.push_number(value);
     }
 }

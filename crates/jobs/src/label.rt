@@ -1,4 +1,5 @@
 // Label jobs: print a run of labels. The outcome is how many were printed.
+ghost use Rattle.std.specs.Prelude.{refl};
 ghost use Rattle.jobs.specs.Label.{label_form, printed_form};
 ghost use Rattle.jobs.specs.Back.{labels_back, printed_back};
 
@@ -18,23 +19,23 @@ impl Job for LabelJob {
 
     const JOB_BYTES: usize = 6;
 
+    ghost JOB_BYTES = { 6 };
+
     const OUTCOME_BYTES: usize = 2;
+
+    ghost OUTCOME_BYTES = { 2 };
 
     ghost form = { label_form };
 
     ghost outcome = { printed_form };
 
+    ghost job_bytes = { refl };
+
+    ghost outcome_bytes = { refl };
+
     ghost job_reads_back = { labels_back };
 
     ghost outcome_reads_back = { printed_back };
-
-    fn width() -> usize {
-        LabelJob::JOB_BYTES
-    }
-
-    fn outcome_width() -> usize {
-        LabelJob::OUTCOME_BYTES
-    }
 
     fn decode(bytes: &[u8]) -> Result<LabelJob, JobFault> {
         if bytes.len() != LabelJob::JOB_BYTES {
@@ -58,6 +59,6 @@ impl Job for LabelJob {
     }
 
     fn print_outcome(value: u16, out: &mut Text) {
-        out.push_number(value as u64);
+        out.push_number(value);
     }
 }

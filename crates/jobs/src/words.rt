@@ -11,7 +11,7 @@ pub(crate) fn print_words(out: &mut Text, word: &str, first: u32, second: u32)
     ensures short { length (words word.now first second) ≤ 30 }
 {
     out.push_str(word);
-    out.push_number(first as u64);
+    out.push_number(first);
     out.push(b' ');
-    out.push_number(second as u64);
+    out.push_number(second);
 }
