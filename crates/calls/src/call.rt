@@ -30,17 +30,18 @@ impl<J, O> Call<J, O> {
         }
     }
 
+    // Into a text and not by `Display`: `write!` may fail.
     pub fn print_name(&self, out: &mut Text)
         ensures gains { Gains out.old (name_of self.now) out.new }
         ensures short { length (name_of self.now) ≤ 6 }
     {
-        match self {
-            Call::Push { .. } => out.push_str("push"),
-            Call::Pop => out.push_str("pop"),
-            Call::Retire => out.push_str("retire"),
-            Call::OwnerStep | Call::HelperStep { .. } => out.push_str("step"),
-            Call::Finish { .. } => out.push_str("finish"),
-            Call::Land => out.push_str("land"),
-        }
+        out.push_str(match self {
+            Call::Push { .. } => "push",
+            Call::Pop => "pop",
+            Call::Retire => "retire",
+            Call::OwnerStep | Call::HelperStep { .. } => "step",
+            Call::Finish { .. } => "finish",
+            Call::Land => "land",
+        });
     }
 }

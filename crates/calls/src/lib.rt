@@ -13,3 +13,7 @@ pub use party::Party;
 mod layer;
 
 pub use layer::Layer;
+
+mod limits;
+
+pub use limits::{MOST_CELLS, MOST_HELPERS};

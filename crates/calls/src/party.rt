@@ -14,6 +14,7 @@ pub enum Party {
 }
 
 impl Party {
+    // Into a text and not by `Display`: `write!` may fail.
     pub fn print(self, out: &mut Text)
         ensures gains { Gains out.old (party_text self) out.new }
         ensures short { length (party_text self) ≤ 4 }
@@ -22,7 +23,7 @@ impl Party {
             Party::Owner => out.push(b'O'),
             Party::Helper { number } => {
                 out.push(b'H');
-                out.push_number(number as u64);
+                out.push_number(number);
             }
             Party::Memory => out.push(b'M'),
         }
