@@ -6,12 +6,13 @@ use Rattle.memory.specs.Meaning as memory
 use Rattle.memory.specs.declared.words.Words.{Words}
 use Rattle.memory.specs.declared.words.Write.{Write}
 use Rattle.memory.specs.declared.words.Write.TheVariants as write
-use Rattle.model.proofs.Entries.{length_changed, none_there, numbered}
-use Rattle.model.proofs.Ways.{by_test}
+use Rattle.model.proofs.Entries.{length_changed, numbered}
+use Rattle.model.proofs.Ways.{handed_ways, begun_ways, finish_ways}
+use Rattle.std.proofs.lemmas.Bool.{cond_both}
 use Rattle.model.specs.Calls.{with_cells, effect_of, Entry}
-use Rattle.model.specs.Helping.{swap_at, step_aimed, step_of, helper_step, finish_aimed, finish_of, finish}
+use Rattle.model.specs.Helping.{swap_at, step_aimed, step_of, helper_step, finish_of, finish}
 use Rattle.model.specs.Histories.{New, Runs, is_taken, is_changed, writes_share, taken_count, changed_count, written_count, ChangedIsBounded}
-use Rattle.model.specs.Owning.{idle, begun, ending_answer, top, push, popped, pop, retired, retired_with, retire, owner_step_at, owner_step}
+use Rattle.model.specs.Owning.{ending_answer, top, push, popped, pop, retired, retired_with, retire, owner_step_at, owner_step}
 use Rattle.model.specs.Places.{at, at_number, changed}
 use Rattle.model.specs.State.{State, Effect, refused}
 use Rattle.model.specs.declared.cell.Cell.{Cell}
@@ -28,21 +29,17 @@ use Rattle.model.specs.declared.owner.Shrink.TheVariants as shrink_at
 use Rattle.model.specs.declared.reply.Access.{Access}
 use Rattle.model.specs.declared.reply.Access.TheVariants as access
 use Rattle.model.specs.declared.reply.Answer.{Answer}
-use Rattle.model.specs.declared.reply.Answer.TheVariants.{Going, Pushed, Stolen, Retired, AllGone, NoShare, Finished, Refused}
+use Rattle.model.specs.declared.reply.Answer.TheVariants.{Going, Stolen, Retired, AllGone, NoShare, Finished, Refused}
 use Rattle.model.specs.declared.reply.Refusal.{Refusal}
-use Rattle.model.specs.declared.reply.Refusal.TheVariants.{UnknownHelper, Holding, HoldsNone, Busy, NothingBegun, Full, Empty, NotTold, Unfinished, Misread, WrongCells}
+use Rattle.model.specs.declared.reply.Refusal.TheVariants.{UnknownHelper, Holding, HoldsNone, Busy, NothingBegun, Empty, NotTold, Unfinished, Misread, WrongCells}
 
 abbrev one : Bool → ℕ
 one b = cond b 1 0
 
 -- 1 where the aim is a swap that would fail at this tail and split
 abbrev fails : ℕ → ℕ → Aim → ℕ
-fails tail split ReadFlag = 0
-fails tail split ReadPair = 0
 fails tail split (Swap pair) = cond (ltb pair.0 pair.1 && (eqb tail pair.0 && eqb split pair.1)) 0 1
-fails tail split ReadRequest = 0
-fails tail split WriteRequest = 0
-fails tail split (Hold position) = 0
+fails tail split a = 0
 
 -- how many helpers' swaps would fail
 abbrev failing : ℕ → ℕ → List Helper → ℕ
@@ -56,8 +53,7 @@ failing_at w hs = failing w.tail w.split hs
 abbrev share : Write → ℕ
 share (write.Pair t s) = 1
 share (write.Split s) = 1
-share (write.Flag b) = 0
-share (write.Request b) = 0
+share x = 0
 
 abbrev shares : List Write → ℕ
 shares [] = 0
@@ -68,13 +64,8 @@ abbrev owed : ℕ → memory.Meaning → List Helper → ℕ
 owed n m hs = failing_at m.words hs + n * shares m.waiting
 
 fails_once : (tail split : ℕ) (a : Aim) → fails tail split a ≤ 1
-fails_once tail split ReadFlag = omega arith
-fails_once tail split ReadPair = omega arith
-fails_once tail split (Swap pair) =
-    by_test (λ (n : ℕ). n ≤ 1) (ltb pair.0 pair.1 && (eqb tail pair.0 && eqb split pair.1)) 0 1 (λ _. omega arith) (λ _. omega arith)
-fails_once tail split ReadRequest = omega arith
-fails_once tail split WriteRequest = omega arith
-fails_once tail split (Hold position) = omega arith
+fails_once tail split (Swap pair) = grind arith
+fails_once tail split a = omega arith
 
 failing_at_most_all : (tail split : ℕ) (hs : List Helper) → failing tail split hs ≤ length hs
 failing_at_most_all tail split [] = omega arith
@@ -86,16 +77,13 @@ fresh tail split some = rw (some, eq-eqb tail tail refl, eq-eqb split split refl
 
 -- one helper's new aim counts in place of its old one
 failing_changed : (tail split : ℕ) (hs : List Helper) (i : ℕ) (h x : Helper) → at hs i ≡ Some h → failing tail split (changed hs i (λ _. x)) + fails tail split h.aim ≡ failing tail split hs + fails tail split x.aim
-failing_changed tail split [] i h x is = none_there h is
-failing_changed tail split (y ∷ ys) zero h x is =
-    let same : y ≡ h = cc in
-    let count : fails tail split y.aim ≡ fails tail split h.aim = ap (λ z. fails tail split z.aim) same in
-    omega arith
+failing_changed tail split [] i h x is = cc
+failing_changed tail split (y ∷ ys) zero h x is = grind arith
 failing_changed tail split (y ∷ ys) (suc i) h x is = omega (arith, failing_changed tail split ys i h x is)
 
 -- a helper whose aim cannot fail is not among the failing
 spared : (tail split : ℕ) (hs : List Helper) (i : ℕ) (h x : Helper) → at hs i ≡ Some h → fails tail split x.aim ≡ 0 → failing tail split (changed hs i (λ _. x)) + 1 ≤ length hs
-spared tail split [] i h x is fine = none_there h is
+spared tail split [] i h x is fine = cc
 spared tail split (y ∷ ys) zero h x is fine = omega (arith, failing_at_most_all tail split ys)
 spared tail split (y ∷ ys) (suc i) h x is fine = omega (arith, fails_once tail split y.aim, spared tail split ys i h x is fine)
 
@@ -111,8 +99,7 @@ shares_joined (y ∷ ys) x = omega (arith, shares_joined ys x)
 one_lands : (n : ℕ) (hs : List Helper) → length hs ≡ n → (x : Write) (w : Words) → failing_at (memory.landed x w) hs ≤ failing_at w hs + n * share x
 one_lands n hs is (write.Pair t s) w = omega (arith, failing_at_most_all t s hs)
 one_lands n hs is (write.Split s) w = omega (arith, failing_at_most_all w.tail s hs)
-one_lands n hs is (write.Flag b) w = omega arith
-one_lands n hs is (write.Request b) w = omega arith
+one_lands n hs is x w = omega arith
 
 -- however many writes land, no more is owed than before
 oldest_land : (n : ℕ) (hs : List Helper) → length hs ≡ n → (k : ℕ) (xs : List Write) (w : Words) → failing_at (memory.all_landed (take k xs) w) hs + n * shares (drop k xs) ≤ failing_at w hs + n * shares xs
@@ -151,12 +138,7 @@ module _ {J O : Type 0} (s : State J O) (n : ℕ) (all : length s.helpers ≡ n)
 
   puts : (x : Write) (name : Access) (answer : Answer J O) → is_changed answer ≡ false → share x ≡ one (writes_share name) → Bounds (memory.puts x) name answer s.helpers
   puts x name answer calm same =
-      let none : one (is_changed answer) ≡ 0 = ap one calm in
-      let more = oldest_land n s.helpers all in
-      let joined : n * shares (m.waiting ++ (x ∷ [])) ≡ n * (shares m.waiting + share x) = ap (λ j. n * j) (shares_joined m.waiting x) in
-      let apart = mul-add n (shares m.waiting) (share x) in
-      let named : n * share x ≡ n * one (writes_share name) = ap (λ j. n * j) same in
-      (all, λ k. omega (arith, more k (m.waiting ++ (x ∷ [])) m.words))
+      (all, λ k. grind (arith, oldest_land n s.helpers all k (m.waiting ++ (x ∷ [])) m.words, shares_joined m.waiting x, mul-add n (shares m.waiting) (share x)))
 
   ending_calm : (end : Ending J) → is_changed (ending_answer {J = J} {O = O} end) ≡ false
   ending_calm ending.Pushed = refl
@@ -166,39 +148,34 @@ module _ {J O : Type 0} (s : State J O) (n : ℕ) (all : length s.helpers ≡ n)
   owner_steps Idle = refuses access.Step NothingBegun
   owner_steps (Opening open_at.WritePair) = puts _ access.WritePair Going refl refl
   owner_steps (Opening open_at.WriteFlag) = puts _ access.WriteFlag Going refl refl
-  owner_steps (Opening open_at.ReadRequest) = by_test Steps _ _ _ (λ _. going access.ReadRequest) (λ _. quiet access.ReadRequest Pushed refl)
-  owner_steps (Sharing share_at.ReadRequest end) =
-      by_test Steps _ _ _ (λ _. going access.ReadRequest) (λ _. quiet access.ReadRequest (ending_answer end) (ending_calm end))
+  owner_steps (Opening open_at.ReadRequest) = grind arith
+  owner_steps (Sharing share_at.ReadRequest ending.Pushed) = grind arith
+  owner_steps (Sharing share_at.ReadRequest (ending.Work job)) = grind arith
   owner_steps (Sharing share_at.WriteSplit end) = puts _ access.WriteSplit Going refl refl
   owner_steps (Sharing share_at.WriteRequest end) = puts _ access.WriteRequest (ending_answer end) (ending_calm end) refl
-  owner_steps (Shrinking shrink_at.ReadPair job) = by_test Steps _ _ _ (λ _. going access.ReadPair) (λ _. refuses access.Step Misread)
+  owner_steps (Shrinking shrink_at.ReadPair job) = grind arith
   owner_steps (Shrinking (shrink_at.WriteSplit t s') job) = puts _ access.WriteSplit Going refl refl
   owner_steps (Shrinking (shrink_at.Fence t s') job) = fences
-  owner_steps (Shrinking (shrink_at.ReadTail t s') job) = by_test Steps _ _ _ (λ _. going access.ReadTail) (λ _. refuses access.Step Misread)
+  owner_steps (Shrinking (shrink_at.ReadTail t s') job) = grind arith
   owner_steps (Shrinking (shrink_at.WriteAgain u s') job) = puts _ access.WriteSplit Going refl refl
   owner_steps Closing = puts _ access.WriteFlag Stolen refl refl
   owner_steps (Retiring outcome) = puts _ access.WriteFlag (Retired outcome) refl refl
 
-  begun_steps : (name : Access) (e : Effect J O) → Steps e → Steps (begun s name e)
-  begun_steps name e steps = by_test Steps (idle s.owner.phase) e (refused s name Busy) (λ _. steps) (λ _. refuses name Busy)
-
   push_steps : (job : J) → Steps (push s job)
-  push_steps job = begun_steps access.Push _ (by_test Steps (eqb s.owner.head s.owner.size) _ _ (λ _. refuses access.Push Full) (λ _. going access.Push))
+  push_steps job = grind arith
 
   popped_steps : (x : Option (Cell J O)) → Steps (popped s x)
   popped_steps None = refuses access.Pop Empty
-  popped_steps (Some cell) =
-      by_test Steps s.owner.own_flag _ _ (λ _. quiet access.Pop Stolen refl)
-      (λ _. by_test Steps (ltb s.owner.own_split s.owner.head) _ _ (λ _. going access.Pop) (λ _. going access.Pop))
+  popped_steps (Some cell) = grind arith
 
   retired_with_steps : (x : Option O) → Steps (retired_with s x)
   retired_with_steps None = refuses access.Retire Unfinished
-  retired_with_steps (Some outcome) = by_test Steps s.owner.own_flag _ _ (λ _. quiet access.Retire (Retired outcome) refl) (λ _. going access.Retire)
+  retired_with_steps (Some outcome) = grind arith
 
   retired_steps : (x : Option (Cell J O)) → Steps (retired s x)
   retired_steps None = refuses access.Retire Empty
   retired_steps (Some cell) =
-      by_test Steps (ltb s.owner.told s.owner.head) _ _ (λ _. refuses access.Retire NotTold) (λ _. retired_with_steps cell.outcome)
+      cond_both (ltb s.owner.told s.owner.head) _ _ Steps (λ _. refuses access.Retire NotTold) (λ _. retired_with_steps cell.outcome)
 
   module _ (helper : ℕ) (h : Helper) (there : at s.helpers (helper - 1) ≡ Some h) where
     abbrev with_aim : Aim → List Helper
@@ -225,54 +202,43 @@ module _ {J O : Type 0} (s : State J O) (n : ℕ) (all : length s.helpers ≡ n)
     swap_steps : (t s' : ℕ) (x : Option (Cell J O)) → h.aim ≡ Swap (t, s') → Steps (swap_at s helper t s' x)
     swap_steps t s' None is = refuses access.Step Misread
     swap_steps t s' (Some cell) is =
-        by_test Steps (memory.swap_passes t s' m.words) _ _
+        cond_both (memory.swap_passes t s' m.words) _ _ Steps
         (λ passes. (
           still_all (Hold t),
           λ k. let w = memory.swapped t s' m.words in omega (arith, spared w.tail w.split s.helpers (helper - 1) h (record { aim = Hold t }) there refl),
         ))
         (λ stale.
-        let same : memory.swapped t s' m.words ≡ m.words = rw stale in
-        let kept : failing_at (memory.swapped t s' m.words) (with_aim ReadFlag) ≡ failing_at m.words (with_aim ReadFlag) = ap (λ w. failing_at w (with_aim ReadFlag)) same in
-        let aimed : fails_now h.aim ≡ fails_now (Swap (t, s')) = ap fails_now is in
-        let failed : fails_now (Swap (t, s')) ≡ 1 = rw stale in
-        (still_all ReadFlag, λ k. omega (arith, counts ReadFlag)))
+        (still_all ReadFlag, λ k. grind (arith, counts ReadFlag)))
 
     aimed_steps : (a : Aim) → h.aim ≡ a → Steps (step_aimed s helper a)
-    aimed_steps ReadFlag is = by_test Steps _ _ _ (λ _. aims access.ReadFlag AllGone ReadFlag refl refl) (λ _. aims access.ReadFlag Going ReadPair refl refl)
+    aimed_steps ReadFlag is = cond_both _ _ _ Steps (λ _. aims access.ReadFlag AllGone ReadFlag refl refl) (λ _. aims access.ReadFlag Going ReadPair refl refl)
     aimed_steps ReadPair is =
-        by_test Steps (ltb s.owner.size m.words.split) (refused s access.Step Misread) _ (λ _. refuses access.Step Misread)
+        cond_both (ltb s.owner.size m.words.split) (refused s access.Step Misread) _ Steps (λ _. refuses access.Step Misread)
         (λ _.
-        by_test Steps (ltb m.words.tail m.words.split) _ _
+        cond_both (ltb m.words.tail m.words.split) _ _ Steps
         (λ some. aims access.ReadPair Going (Swap (m.words.tail, m.words.split)) refl (fresh m.words.tail m.words.split some))
         (λ _. aims access.ReadPair Going ReadRequest refl refl))
     aimed_steps (Swap pair) is = swap_steps pair.0 pair.1 (at s.cells pair.0) is
-    aimed_steps ReadRequest is = by_test Steps _ _ _ (λ _. aims access.ReadRequest NoShare ReadFlag refl refl) (λ _. aims access.ReadRequest Going WriteRequest refl refl)
+    aimed_steps ReadRequest is = cond_both _ _ _ Steps (λ _. aims access.ReadRequest NoShare ReadFlag refl refl) (λ _. aims access.ReadRequest Going WriteRequest refl refl)
     aimed_steps WriteRequest is = asks
     aimed_steps (Hold position) is = refuses access.Step Holding
-
-    finish_aimed_steps : (outcome : O) (a : Aim) → Steps (finish_aimed s helper outcome a)
-    finish_aimed_steps outcome ReadFlag = refuses access.Finish HoldsNone
-    finish_aimed_steps outcome ReadPair = refuses access.Finish HoldsNone
-    finish_aimed_steps outcome (Swap pair) = refuses access.Finish HoldsNone
-    finish_aimed_steps outcome ReadRequest = refuses access.Finish HoldsNone
-    finish_aimed_steps outcome WriteRequest = refuses access.Finish HoldsNone
-    finish_aimed_steps outcome (Hold position) = aims access.Finish Finished ReadFlag refl refl
 
   helper_steps : (helper : ℕ) (x : Option Helper) → at_number s.helpers helper ≡ x → Steps (step_of s helper x)
   helper_steps helper None is = refuses access.Step UnknownHelper
   helper_steps helper (Some h) is = aimed_steps helper h (numbered s.helpers helper h is) h.aim refl
 
   finish_steps : (helper : ℕ) (outcome : O) (x : Option Helper) → at_number s.helpers helper ≡ x → Steps (finish_of s helper outcome x)
-  finish_steps helper outcome None is = refuses access.Finish UnknownHelper
-  finish_steps helper outcome (Some h) is = finish_aimed_steps helper h (numbered s.helpers helper h is) outcome h.aim
+  finish_steps helper outcome x is =
+      finish_ways s Steps helper outcome x (refuses access.Finish UnknownHelper) (λ h some none. refuses access.Finish HoldsNone)
+      (λ h p some holds. aims helper h (numbered s.helpers helper h (is ∙ some)) access.Finish Finished ReadFlag refl refl)
 
   cells_step : (handed : ℕ) (name : Access) (e : Effect J O) → Steps e → Steps (with_cells s handed name e)
-  cells_step handed name e steps = by_test Steps (eqb handed s.owner.size) e (refused s name WrongCells) (λ _. steps) (λ _. refuses name WrongCells)
+  cells_step handed name e steps = handed_ways s Steps handed name e steps (refuses name WrongCells)
 
   call_steps : (handed : ℕ) (call : Call J O) → Steps (effect_of s handed call)
   call_steps handed (Push job) = cells_step handed access.Push (push s job) (push_steps job)
-  call_steps handed Pop = cells_step handed access.Pop (pop s) (begun_steps access.Pop _ (popped_steps (top s)))
-  call_steps handed Retire = cells_step handed access.Retire (retire s) (begun_steps access.Retire _ (retired_steps (top s)))
+  call_steps handed Pop = cells_step handed access.Pop (pop s) (begun_ways s Steps access.Pop _ (λ _. popped_steps (top s)) (refuses access.Pop Busy))
+  call_steps handed Retire = cells_step handed access.Retire (retire s) (begun_ways s Steps access.Retire _ (λ _. retired_steps (top s)) (refuses access.Retire Busy))
   call_steps handed OwnerStep = cells_step handed access.Step (owner_step s) (owner_steps s.owner.phase)
   call_steps handed (HelperStep helper) = cells_step handed access.Step (helper_step s helper) (helper_steps helper (at_number s.helpers helper) refl)
   call_steps handed (Finish helper outcome) = cells_step handed access.Finish (finish s helper outcome) (finish_steps helper outcome (at_number s.helpers helper) refl)
@@ -289,24 +255,19 @@ module _ {J O : Type 0} (start : State J O) (new : New start) where
 
   paid : (h : List (Entry J O)) (s : State J O) → Runs start h s → Paid h s
   paid [] s is =
-      let first : owed n start.memory start.helpers ≡ failing 0 0 (replicate n (record { aim = ReadFlag })) + n * 0 = ap (λ b. owed n b.memory b.helpers) new.made in
       let now : owed n s.memory s.helpers ≡ owed n start.memory start.helpers = ap (λ b. owed n b.memory b.helpers) is in
-      record { all = ap (λ b. length b.helpers) is; bound = omega (arith, none_fails_at_first n) }
+      record { all = ap (λ b. length b.helpers) is; bound = grind (arith, new.made, none_fails_at_first n) }
   paid (e ∷ h) s (before, runs, makes) =
       let past = paid h before runs in
       let effect = effect_of before e.handed e.call in
       let k = e.reply.landed in
       let steps = call_steps before n past.all e.handed e.call in
-      let answers : e.reply.answer ≡ effect.answer = ap (λ r. r.answer) makes.replies in
-      let accesses : e.reply.access ≡ effect.access = ap (λ r. r.access) makes.replies in
-      let stale : one (is_changed e.reply.answer) ≡ one (is_changed effect.answer) = ap (λ a. one (is_changed a)) answers in
-      let took : (n - 1) * one (is_taken e.reply.answer) ≡ (n - 1) * one (is_taken effect.answer) = ap (λ a. (n - 1) * one (is_taken a)) answers in
-      let wrote : n * one (writes_share e.reply.access) ≡ n * one (writes_share effect.access) = ap (λ a. n * one (writes_share a)) accesses in
       let now : owed n s.memory s.helpers ≡ owed n (memory.after effect.touches k before.memory) effect.helpers = ap (λ b. owed n b.memory b.helpers) makes.moves in
       record {
         all = ap (λ b. length b.helpers) makes.moves ∙ steps.0;
-        bound = omega (
+        bound = grind (
           arith,
+          makes.replies,
           past.bound,
           steps.1 k,
           mul-add (n - 1) (one (is_taken e.reply.answer)) (taken_count h),

@@ -1,17 +1,15 @@
 -- What the shared words may look like, now and after any number of landings. Assumes nothing.
-use Rattle.std.proofs.Common.{◌≡◌, ℕ, zero, suc, ◌+◌, ◌<◌, ◌≤◌, true, cond, List, [], ◌∷◌, ◌++◌, length, take, drop, sym, refl, ap, ◌∙◌, subst, arith, take-append-drop, ltb-true, eqb-true}
+use Rattle.std.proofs.Common.{◌≡◌, ℕ, zero, suc, ◌+◌, ◌<◌, ◌≤◌, true, List, [], ◌∷◌, ◌++◌, length, take, drop, sym, refl, ◌∙◌, arith, take-append-drop}
 use Rattle.std.proofs.lemmas.List.{take_all, drop_all}
 use Rattle.memory.specs.Meaning.{Meaning, landed, all_landed, settled, oldest_landed, queued_up, swap_passes, swapped}
 use Rattle.memory.specs.declared.words.Words.{Words}
 use Rattle.memory.specs.declared.words.Write.{Write}
-use Rattle.memory.specs.declared.words.Write.TheVariants.{Pair, Split, Flag, Request}
-use Rattle.model.proofs.Ways.{both}
+use Rattle.memory.specs.declared.words.Write.TheVariants.{Pair, Split}
+use Rattle.std.proofs.lemmas.Bool.Decides.{nat_tests}
 
 abbrev pub NotPair : Write → Type 0
 NotPair (Pair t s) = ⊥
-NotPair (Split s) = Unit {0}
-NotPair (Flag b) = Unit {0}
-NotPair (Request b) = Unit {0}
+NotPair x = Unit {0}
 
 -- no pair write waits, and no split above B is seen, now or later
 abbrev pub Bounded : ℕ → Words → List Write → Type 0
@@ -27,9 +25,7 @@ pub record Quiet (size : ℕ) (m : Meaning) : Type 0 where
 abbrev pub Pending : ℕ → ℕ → ℕ → Words → List Write → Type 0
 Pending size R B w [] = ⊥
 Pending size R B w (Pair t s ∷ xs) = (w.split ≤ w.tail) × ((w.tail ≤ size) × ((t ≡ R) × ((R < s) × Bounded B (landed (Pair t s) w) xs)))
-Pending size R B w (Split s ∷ xs) = (w.split ≤ w.tail) × ((w.tail ≤ size) × Pending size R B (landed (Split s) w) xs)
-Pending size R B w (Flag b ∷ xs) = (w.split ≤ w.tail) × ((w.tail ≤ size) × Pending size R B (landed (Flag b) w) xs)
-Pending size R B w (Request b ∷ xs) = (w.split ≤ w.tail) × ((w.tail ≤ size) × Pending size R B (landed (Request b) w) xs)
+Pending size R B w (x ∷ xs) = (w.split ≤ w.tail) × ((w.tail ≤ size) × Pending size R B (landed x w) xs)
 
 -- R positions are stolen: the tail says so, or will once the pair write lands
 pub data Mode (size R B : ℕ) (m : Meaning) : Type 0 where
@@ -49,14 +45,11 @@ pub bounded_same : (B : ℕ) (w v : Words) (xs : List Write) → w.split ≡ v.s
 bounded_same B w v [] same b = omega arith
 bounded_same B w v (Pair t s ∷ xs) same b = absurd b.1.0
 bounded_same B w v (Split s ∷ xs) same b = (omega (arith, b.0), (tt, bounded_same B (landed (Split s) w) (landed (Split s) v) xs refl b.1.1))
-bounded_same B w v (Flag f ∷ xs) same b = (omega (arith, b.0), (tt, bounded_same B (landed (Flag f) w) (landed (Flag f) v) xs same b.1.1))
-bounded_same B w v (Request f ∷ xs) same b = (omega (arith, b.0), (tt, bounded_same B (landed (Request f) w) (landed (Request f) v) xs same b.1.1))
+bounded_same B w v (x ∷ xs) same b = (omega (arith, b.0), (tt, bounded_same B (landed x w) (landed x v) xs same b.1.1))
 
 tail_stays : (x : Write) (w : Words) → NotPair x → (landed x w).tail ≡ w.tail
 tail_stays (Pair t s) w not = absurd not
-tail_stays (Split s) w not = refl
-tail_stays (Flag b) w not = refl
-tail_stays (Request b) w not = refl
+tail_stays x w not = refl
 
 -- landings keep the bound and the tail
 bounded_lands : (B : ℕ) (n : ℕ) (w : Words) (xs : List Write) → Bounded B w xs → Bounded B (all_landed (take n xs) w) (drop n xs)
@@ -74,7 +67,7 @@ quiet_lands size n m q =
     let same = tail_lands m.words.tail n m.words m.waiting q.none in
     record {
       tail_size = omega (arith, same, q.tail_size);
-      none = subst (λ t. Bounded t (all_landed (take n m.waiting) m.words) (drop n m.waiting)) (sym same) (bounded_lands m.words.tail n m.words m.waiting q.none);
+      none = rw same (bounded_lands m.words.tail n m.words m.waiting q.none);
     }
 
 pending_lands : (size R B n : ℕ) (w : Words) (xs : List Write) → Pending size R B w xs → Mode size R B (record { words = all_landed (take n xs) w; waiting = drop n xs })
@@ -83,9 +76,7 @@ pending_lands size R B (suc n) w [] p = absurd p
 pending_lands size R B (suc n) w (Pair t s ∷ xs) p =
     let after = landed (Pair t s) w in
     live (tail_lands B n after xs p.1.1.1.1 ∙ p.1.1.0) (bounded_lands B n after xs p.1.1.1.1)
-pending_lands size R B (suc n) w (Split s ∷ xs) p = pending_lands size R B n (landed (Split s) w) xs p.1.1
-pending_lands size R B (suc n) w (Flag b ∷ xs) p = pending_lands size R B n (landed (Flag b) w) xs p.1.1
-pending_lands size R B (suc n) w (Request b ∷ xs) p = pending_lands size R B n (landed (Request b) w) xs p.1.1
+pending_lands size R B (suc n) w (x ∷ xs) p = pending_lands size R B n (landed x w) xs p.1.1
 
 pub mode_lands : (size R B n : ℕ) (m : Meaning) → Mode size R B m → Mode size R B (oldest_landed n m)
 mode_lands size R B n m (live tail b) = live (tail_lands B n m.words m.waiting b ∙ tail) (bounded_lands B n m.words m.waiting b)
@@ -94,9 +85,7 @@ mode_lands size R B n m (waits p) = pending_lands size R B n m.words m.waiting p
 pending_more : (size R B C : ℕ) (w : Words) (xs : List Write) → B ≤ C → Pending size R B w xs → Pending size R C w xs
 pending_more size R B C w [] le p = p
 pending_more size R B C w (Pair t s ∷ xs) le p = (p.0, (p.1.0, (p.1.1.0, (p.1.1.1.0, bounded_more B C _ xs le p.1.1.1.1))))
-pending_more size R B C w (Split s ∷ xs) le p = (p.0, (p.1.0, pending_more size R B C _ xs le p.1.1))
-pending_more size R B C w (Flag b ∷ xs) le p = (p.0, (p.1.0, pending_more size R B C _ xs le p.1.1))
-pending_more size R B C w (Request b ∷ xs) le p = (p.0, (p.1.0, pending_more size R B C _ xs le p.1.1))
+pending_more size R B C w (x ∷ xs) le p = (p.0, (p.1.0, pending_more size R B C _ xs le p.1.1))
 
 pub mode_more : (size R B C : ℕ) (m : Meaning) → B ≤ C → Mode size R B m → Mode size R C m
 mode_more size R B C m le (live tail b) = live tail (bounded_more B C m.words m.waiting le b)
@@ -106,22 +95,18 @@ mode_more size R B C m le (waits p) = waits (pending_more size R B C m.words m.w
 abbrev pub Within : ℕ → Write → Type 0
 Within B (Pair t s) = ⊥
 Within B (Split s) = s ≤ B
-Within B (Flag b) = Unit {0}
-Within B (Request b) = Unit {0}
+Within B x = Unit {0}
 
 joins_bounded : (B : ℕ) (w : Words) (xs : List Write) (x : Write) → Within B x → Bounded B w xs → Bounded B w (xs ++ (x ∷ []))
 joins_bounded B w [] (Pair t s) in_bound b = absurd in_bound
 joins_bounded B w [] (Split s) in_bound b = (b, (tt, in_bound))
-joins_bounded B w [] (Flag f) in_bound b = (b, (tt, b))
-joins_bounded B w [] (Request f) in_bound b = (b, (tt, b))
+joins_bounded B w [] x in_bound b = (b, (tt, b))
 joins_bounded B w (y ∷ xs) x in_bound b = (b.0, (b.1.0, joins_bounded B (landed y w) xs x in_bound b.1.1))
 
 joins_pending : (size R B : ℕ) (w : Words) (xs : List Write) (x : Write) → Within B x → Pending size R B w xs → Pending size R B w (xs ++ (x ∷ []))
 joins_pending size R B w [] x in_bound p = absurd p
 joins_pending size R B w (Pair t s ∷ xs) x in_bound p = (p.0, (p.1.0, (p.1.1.0, (p.1.1.1.0, joins_bounded B _ xs x in_bound p.1.1.1.1))))
-joins_pending size R B w (Split s ∷ xs) x in_bound p = (p.0, (p.1.0, joins_pending size R B _ xs x in_bound p.1.1))
-joins_pending size R B w (Flag b ∷ xs) x in_bound p = (p.0, (p.1.0, joins_pending size R B _ xs x in_bound p.1.1))
-joins_pending size R B w (Request b ∷ xs) x in_bound p = (p.0, (p.1.0, joins_pending size R B _ xs x in_bound p.1.1))
+joins_pending size R B w (y ∷ xs) x in_bound p = (p.0, (p.1.0, joins_pending size R B _ xs x in_bound p.1.1))
 
 pub mode_joins : (size R B : ℕ) (m : Meaning) (x : Write) → Within B x → Mode size R B m → Mode size R B (queued_up x m)
 mode_joins size R B m x in_bound (live tail b) = live tail (joins_bounded B m.words m.waiting x in_bound b)
@@ -134,9 +119,7 @@ quiet_joins size m x in_bound q = record { tail_size = q.tail_size; none = joins
 opens : (size R : ℕ) (w : Words) (xs : List Write) → w.tail ≤ size → Bounded w.tail w xs → Pending size R (R + 1) w (xs ++ (Pair R (R + 1) ∷ []))
 opens size R w [] small b = (b, (small, (refl, (omega arith, omega arith))))
 opens size R w (Pair t s ∷ xs) small b = absurd b.1.0
-opens size R w (Split s ∷ xs) small b = (b.0, (small, opens size R (landed (Split s) w) xs small b.1.1))
-opens size R w (Flag f ∷ xs) small b = (b.0, (small, opens size R (landed (Flag f) w) xs small b.1.1))
-opens size R w (Request f ∷ xs) small b = (b.0, (small, opens size R (landed (Request f) w) xs small b.1.1))
+opens size R w (x ∷ xs) small b = (b.0, (small, opens size R (landed x w) xs small b.1.1))
 
 pub quiet_opens : (size R : ℕ) (m : Meaning) → Quiet size m → Mode size R (R + 1) (queued_up (Pair R (R + 1)) m)
 quiet_opens size R m q = waits (opens size R m.words m.waiting q.tail_size q.none)
@@ -144,9 +127,7 @@ quiet_opens size R m q = waits (opens size R m.words m.waiting q.tail_size q.non
 no_room : (size R B : ℕ) (w : Words) (xs : List Write) → B ≤ R → Pending size R B w xs → ⊥
 no_room size R B w [] low p = p
 no_room size R B w (Pair t s ∷ xs) low p = omega (arith, p.1.1.1.0, bounded_now B (landed (Pair t s) w) xs p.1.1.1.1)
-no_room size R B w (Split s ∷ xs) low p = no_room size R B _ xs low p.1.1
-no_room size R B w (Flag b ∷ xs) low p = no_room size R B _ xs low p.1.1
-no_room size R B w (Request b ∷ xs) low p = no_room size R B _ xs low p.1.1
+no_room size R B w (x ∷ xs) low p = no_room size R B _ xs low p.1.1
 
 -- where no split passes what is stolen, nothing can be stolen
 pub mode_quiet : (size R B : ℕ) (m : Meaning) → B ≤ R → R ≤ size → Mode size R B m → Quiet size m
@@ -164,9 +145,7 @@ settled_bounded B w (x ∷ xs) b = settled_bounded B (landed x w) xs b.1.1 ∙ t
 settled_pending : (size R B : ℕ) (w : Words) (xs : List Write) → Pending size R B w xs → (all_landed xs w).tail ≡ R
 settled_pending size R B w [] p = absurd p
 settled_pending size R B w (Pair t s ∷ xs) p = settled_bounded B (landed (Pair t s) w) xs p.1.1.1.1 ∙ p.1.1.0
-settled_pending size R B w (Split s ∷ xs) p = settled_pending size R B _ xs p.1.1
-settled_pending size R B w (Flag b ∷ xs) p = settled_pending size R B _ xs p.1.1
-settled_pending size R B w (Request b ∷ xs) p = settled_pending size R B _ xs p.1.1
+settled_pending size R B w (x ∷ xs) p = settled_pending size R B _ xs p.1.1
 
 pub settled_tail : (size R B : ℕ) (m : Meaning) → Mode size R B m → (settled m).tail ≡ R
 settled_tail size R B m (live tail b) = settled_bounded B m.words m.waiting b ∙ tail
@@ -178,7 +157,7 @@ landed_append (x ∷ xs) ys w = landed_append xs ys (landed x w)
 
 pub settled_landed : (n : ℕ) (m : Meaning) → settled (oldest_landed n m) ≡ settled m
 settled_landed n m =
-    sym (landed_append (take n m.waiting) (drop n m.waiting) m.words) ∙ ap (λ xs. all_landed xs m.words) (take-append-drop n m.waiting)
+    rw (← landed_append, take-append-drop)
 
 pub settled_joins : (x : Write) (m : Meaning) → settled (queued_up x m) ≡ landed x (settled m)
 settled_joins x m = landed_append m.waiting (x ∷ []) m.words
@@ -188,8 +167,7 @@ split_same : (w v : Words) (xs : List Write) → w.split ≡ v.split → (all_la
 split_same w v [] same = same
 split_same w v (Pair t s ∷ xs) same = split_same (landed (Pair t s) w) (landed (Pair t s) v) xs refl
 split_same w v (Split s ∷ xs) same = split_same (landed (Split s) w) (landed (Split s) v) xs refl
-split_same w v (Flag b ∷ xs) same = split_same (landed (Flag b) w) (landed (Flag b) v) xs same
-split_same w v (Request b ∷ xs) same = split_same (landed (Request b) w) (landed (Request b) v) xs same
+split_same w v (x ∷ xs) same = split_same (landed x w) (landed x v) xs same
 
 abbrev pub with_words : Meaning → Words → Meaning
 with_words m w = record { words = w; waiting = m.waiting }
@@ -202,8 +180,7 @@ pending_same : (size R B : ℕ) (w v : Words) (xs : List Write) → w.tail ≡ v
 pending_same size R B w v [] t s p = p
 pending_same size R B w v (Pair a b ∷ xs) t s p = (omega (arith, p.0), (omega (arith, p.1.0), (p.1.1.0, (p.1.1.1.0, bounded_same B _ _ xs refl p.1.1.1.1))))
 pending_same size R B w v (Split a ∷ xs) t s p = (omega (arith, p.0), (omega (arith, p.1.0), pending_same size R B (landed (Split a) w) (landed (Split a) v) xs t refl p.1.1))
-pending_same size R B w v (Flag a ∷ xs) t s p = (omega (arith, p.0), (omega (arith, p.1.0), pending_same size R B (landed (Flag a) w) (landed (Flag a) v) xs t s p.1.1))
-pending_same size R B w v (Request a ∷ xs) t s p = (omega (arith, p.0), (omega (arith, p.1.0), pending_same size R B (landed (Request a) w) (landed (Request a) v) xs t s p.1.1))
+pending_same size R B w v (x ∷ xs) t s p = (omega (arith, p.0), (omega (arith, p.1.0), pending_same size R B (landed x w) (landed x v) xs t s p.1.1))
 
 pub mode_same : (size R B : ℕ) (m : Meaning) (v : Words) → m.words.tail ≡ v.tail → m.words.split ≡ v.split → Mode size R B m → Mode size R B (with_words m v)
 mode_same size R B m v t s (live tail b) = live (sym t ∙ tail) (bounded_same B m.words v m.waiting s b)
@@ -212,18 +189,14 @@ mode_same size R B m v t s (waits p) = waits (pending_same size R B m.words v m.
 pub quiet_same : (size : ℕ) (m : Meaning) (v : Words) → m.words.tail ≡ v.tail → m.words.split ≡ v.split → Quiet size m → Quiet size (with_words m v)
 quiet_same size m v t s q = record {
   tail_size = omega (arith, q.tail_size);
-  none = bounded_same v.tail m.words v m.waiting s (subst (λ k. Bounded k m.words m.waiting) t q.none);
+  none = bounded_same v.tail m.words v m.waiting s (rw (← t) q.none);
 }
 
 -- a fence shows helpers what the owner reads
 pub fence_shows : (size R B n : ℕ) (m : Meaning) → n ≡ length m.waiting → Mode size R B m → Mode size R (settled m).split (oldest_landed n m)
 fence_shows size R B n m all mode =
     let xs = m.waiting in
-    let every : take n xs ≡ xs = take_all n xs (omega arith) in
-    let left : drop n xs ≡ [] = drop_all n xs (omega arith) in
-    let shown : Mode size R (settled m).split (record { words = settled m; waiting = [] }) = live (settled_tail size R B m mode) (omega arith) in
-    subst (λ ys. Mode size R (settled m).split (record { words = all_landed (take n xs) m.words; waiting = ys })) (sym left)
-    (subst (λ ys. Mode size R (settled m).split (record { words = all_landed ys m.words; waiting = [] })) (sym every) shown)
+    rw (take_all n xs (omega arith), drop_all n xs (omega arith)) (live (settled_tail size R B m mode) (omega arith))
 
 -- a swap that passes found the pair it names
 pub record Found (t s : ℕ) (w : Words) : Type 0 where
@@ -232,22 +205,17 @@ pub record Found (t s : ℕ) (w : Words) : Type 0 where
   pub split : w.split ≡ s
 
 pub swap_found : (t s : ℕ) (w : Words) → swap_passes t s w ≡ true → Found t s w
-swap_found t s w passes =
-    let (less, pair) = both _ _ passes in
-    let (tail, split) = both _ _ pair in
-    record { less = ltb-true t s less; tail = eqb-true _ _ tail; split = eqb-true _ _ split }
+swap_found t s w passes = grind (arith, nat_tests)
 
 pub quiet_no_swap : (size t s : ℕ) (m : Meaning) → Quiet size m → swap_passes t s m.words ≡ true → ⊥
 quiet_no_swap size t s m q passes =
     let found = swap_found t s m.words passes in
-    omega (arith, bounded_now _ m.words m.waiting q.none, found.less, found.tail, found.split)
+    omega (arith, bounded_now _ m.words m.waiting q.none)
 
-pending_now : (size R B : ℕ) (w : Words) (xs : List Write) → Pending size R B w xs → w.split ≤ w.tail
+pending_now : (size R B : ℕ) (w : Words) (xs : List Write) → Pending size R B w xs → (w.split ≤ w.tail) × (w.tail ≤ size)
 pending_now size R B w [] p = absurd p
-pending_now size R B w (Pair t s ∷ xs) p = p.0
-pending_now size R B w (Split s ∷ xs) p = p.0
-pending_now size R B w (Flag b ∷ xs) p = p.0
-pending_now size R B w (Request b ∷ xs) p = p.0
+pending_now size R B w (Pair t s ∷ xs) p = (p.0, p.1.0)
+pending_now size R B w (x ∷ xs) p = (p.0, p.1.0)
 
 -- a passed swap steals position R, which is shared
 pub record StolenOne (size R B t : ℕ) (m : Meaning) (v : Words) : Type 0 where
@@ -258,29 +226,19 @@ pub record StolenOne (size R B t : ℕ) (m : Meaning) (v : Words) : Type 0 where
 pub mode_swap : (size R B t s : ℕ) (m : Meaning) → Mode size R B m → swap_passes t s m.words ≡ true → StolenOne size R B t m (swapped t s m.words)
 mode_swap size R B t s m (waits p) passes =
     let found = swap_found t s m.words passes in
-    absurd (omega (arith, pending_now size R B m.words m.waiting p, found.less, found.tail, found.split))
+    absurd (omega (arith, pending_now size R B m.words m.waiting p))
 mode_swap size R B t s m (live tail b) passes =
-    let w = m.words in
-    let found = swap_found t s w passes in
-    let after : Words = record { tail = t + 1; split = w.split; flag = w.flag; request = w.request } in
-    let is : swapped t s w ≡ after = ap (λ c. cond c after w) passes in
+    let found = swap_found t s m.words passes in
     record {
       position = sym found.tail ∙ tail;
-      shared = omega (arith, bounded_now B w m.waiting b, found.less, found.tail, found.split);
-      mode = subst (λ v. Mode size (R + 1) B (with_words m v)) (sym is) (live (omega (arith, found.tail)) (bounded_same B w after m.waiting refl b));
+      shared = omega (arith, bounded_now B m.words m.waiting b);
+      mode = rw passes (live (omega arith) (bounded_same B m.words _ m.waiting refl b));
     }
 
 -- a split that helpers see
 pub quiet_split : (size : ℕ) (m : Meaning) → Quiet size m → m.words.split ≤ size
 quiet_split size m q = omega (arith, bounded_now _ m.words m.waiting q.none, q.tail_size)
 
-pending_small : (size R B : ℕ) (w : Words) (xs : List Write) → Pending size R B w xs → w.tail ≤ size
-pending_small size R B w [] p = absurd p
-pending_small size R B w (Pair t s ∷ xs) p = p.1.0
-pending_small size R B w (Split s ∷ xs) p = p.1.0
-pending_small size R B w (Flag b ∷ xs) p = p.1.0
-pending_small size R B w (Request b ∷ xs) p = p.1.0
-
 pub mode_split : (size R B : ℕ) (m : Meaning) → B ≤ size → Mode size R B m → m.words.split ≤ size
 mode_split size R B m bound (live tail b) = omega (arith, bounded_now B m.words m.waiting b)
-mode_split size R B m bound (waits p) = omega (arith, pending_now size R B m.words m.waiting p, pending_small size R B m.words m.waiting p)
+mode_split size R B m bound (waits p) = omega (arith, pending_now size R B m.words m.waiting p)

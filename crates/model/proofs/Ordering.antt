@@ -1,27 +1,19 @@
 -- Each call's event puts at most one operation into the order, and the order stays an order of the history. Assumes nothing.
-use Rattle.std.proofs.Common.{◌≡◌, ℕ, suc, ◌≤◌, Bool, true, false, cond, eqb, ◌⊎◌, List, [], ◌∷◌, ◌++◌, length, Some, None, Option, sym, refl, ap, ◌∙◌, subst, inl, inr, arith}
+use Rattle.std.proofs.Common.{◌≡◌, ℕ, suc, ◌≤◌, Bool, true, false, cond, eqb, ◌⊎◌, List, [], ◌∷◌, ◌++◌, length, Some, None, Option, sym, refl, ap, ◌∙◌, inl, inr, arith}
 use borrow.Author.Tests.{eqb-false}
 use Rattle.calls.specs.declared.call.Call.{Call}
 use Rattle.calls.specs.declared.call.Call.TheVariants.{Push, Pop, Retire, OwnerStep, HelperStep, Finish, Land}
 use Rattle.calls.specs.declared.party.Party.{Party}
 use Rattle.calls.specs.declared.party.Party.TheVariants.{Owner, Helper}
 use Rattle.model.proofs.Events.{Stage, resting, unplaced, placed, Event, nothing, places, PushAllowed, PopAllowed, RetireAllowed, StepAllowed, AttemptAllowed, FinishAllowed, Allowed, Happens}
-use Rattle.model.proofs.Ways.{by_test}
+use Rattle.std.proofs.lemmas.Bool.{cond_both}
+use Rattle.std.proofs.lemmas.Option.{same_Some}
 use Rattle.model.specs.Calls.{Entry}
-use Rattle.model.specs.Orders.{Progress, going, ended, barred, progress, is_operation, attempt_goes, first_call, Begun, Operation, owner_after, owner_begun, attempt_after, attempt_begun, operation, alone, step_ends, attempt_ends, ends, EndedIn, Place, Along, In, Rises, Places, UnderWay, Orders}
+use Rattle.model.specs.Orders.{Progress, going, ended, barred, progress, is_operation, attempt_goes, first_call, Begun, Operation, begins, owner_after, owner_begun, attempt_after, attempt_begun, operation, alone, step_ends, attempt_ends, ends, EndedIn, Place, Along, In, Rises, Places, UnderWay, Orders}
 use Rattle.model.specs.Plain.{Plain, Deed, pushes, pops, retires, takes, finishes, new_plain, does}
 use Rattle.model.specs.declared.reply.Answer.{Answer}
-use Rattle.model.specs.declared.reply.Answer.TheVariants.{Going, Pushed, Work, Stolen, Retired, Taken, AllGone, NoShare, Changed, Finished, Refused}
-
--- nothing there is not something there
-no_some : {X P : Type 0} (o : Option X) (x : X) → o ≡ None → o ≡ Some x → P
-no_some o x none some = absurd (let z : ◌≡◌ {A = ℕ} 0 1 = cc in omega arith)
-
-same_some : {X : Type 0} (o : Option X) (x y : X) → o ≡ Some x → o ≡ Some y → x ≡ y
-same_some o x y is is' = cc
-
-not_helper : {P : Type 0} (till : Party) (k : ℕ) → till ≡ Owner → till ≡ Helper k → P
-not_helper till k owner helper = absurd (let z : ◌≡◌ {A = ℕ} 0 1 = cc in omega arith)
+use Rattle.model.specs.declared.reply.Refusal.{Refusal}
+use Rattle.model.specs.declared.reply.Answer.TheVariants.{Pushed, Work, Retired, Taken, Refused}
 
 module _ {J O : Type 0} where
   -- the order has no operation of this till with this first call
@@ -69,7 +61,7 @@ module _ {J O : Type 0} where
     all = λ op ended_in. absurd ended_in;
     only = λ q among. absurd among;
     owner = refl;
-    attempts = λ k f is. no_some None f refl is;
+    attempts = λ k f is. cc;
   }
 
   pub kept_orders : (size : ℕ) (h : List (Entry J O)) (st : Stage J O) (b : Plain J O) (order : List (Place J O)) → Kept size h st b order → Orders size h order
@@ -77,11 +69,11 @@ module _ {J O : Type 0} where
 
   -- what holds of the new place and of those before holds along the longer order
   each : (P : Place J O → Type 0) (p : Place J O) (order : List (Place J O)) → P p → ((q : Place J O) → In q order → P q) → (q : Place J O) → In q (p ∷ order) → P q
-  each P p order here there q (inl is) = subst P (sym is) here
+  each P p order here there q (inl is) = rw is here
   each P p order here there q (inr among) = there q among
 
   later : (n : ℕ) (q : Place J O) → Within n q → Within (suc n) q
-  later n q within = record { at_most = omega (arith, within.at_most); after_first = within.after_first }
+  later n q within = omega arith
 
   -- a call yet to come is no operation's first call
   new_is_fresh : (n : ℕ) (till : Party) (order : List (Place J O)) → ((q : Place J O) → In q order → Within n q) → Fresh till (suc n) order
@@ -164,7 +156,7 @@ module _ {J O : Type 0} (size : ℕ) (h : List (Entry J O)) (st : Stage J O) (b 
   quiet st' b' same stands attempts found on = (
     [],
     record {
-      along = subst (λ (x : Plain J O). Along size order x) (sym same) kept.along;
+      along = rw same kept.along;
       rises = kept.rises;
       within = λ q among. later (length h) q (kept.within q among);
       all = all_found order found (λ p among. among);
@@ -181,7 +173,7 @@ module _ {J O : Type 0} (size : ℕ) (h : List (Entry J O)) (st : Stage J O) (b 
     record {
       along = (b, kept.along, answers);
       rises = (λ q among. omega (arith, (kept.within q among).at_most), (fresh, kept.rises));
-      within = each (Within n) p order (record { at_most = omega arith; after_first = omega arith }) (λ q among. later (length h) q (kept.within q among));
+      within = each (Within n) p order (omega arith) (λ q among. later (length h) q (kept.within q among));
       all = all_found (p ∷ order) found (λ q among. inr among);
       only = each Meant p order (held_is_meant p held) (λ q among. meant_before q (on q among) (kept.only q among));
       owner = stands;
@@ -192,18 +184,12 @@ module _ {J O : Type 0} (size : ℕ) (h : List (Entry J O)) (st : Stage J O) (b 
   new_fresh : (till : Party) → Fresh till n order
   new_fresh till = new_is_fresh (length h) till order kept.within
 
-  found_none : (order' : List (Place J O)) → ending ≡ None → Found order'
-  found_none order' none op is = no_some ending op none is
-
   -- the call ends the operation of this place
   found_here : (p : Place J O) (op : Operation J O) → ending ≡ Some op → Places op p → Found (p ∷ order)
-  found_here p op is its op' is' = let same : op ≡ op' = cc in (p, inl refl, subst (λ (x : Operation J O). Places x p) same its)
+  found_here p op is its op' is' = let same : op ≡ op' = cc in (p, inl refl, rw same at its)
 
   goes_on_same : SameOwner → GoesOn
   goes_on_same same p among goes = inr (record { till = goes.till; begun = same ∙ goes.begun; after_first = goes.after_first })
-
-  goes_on_none : owner_begun h ≡ None → GoesOn
-  goes_on_none none p among goes = no_some (owner_begun h) _ none goes.begun
 
   attempting_same : (p : Place J O) → SameAttempts → ((k : ℕ) → p.till ≡ Helper k → p.first ≡ n) → Attempting (λ k. attempt_begun k (e ∷ h)) n (p ∷ order)
   attempting_same p same other k f is = attempting_more (λ k. attempt_begun k h) (length h) p order other kept.attempts k f (sym (same k) ∙ is)
@@ -214,7 +200,7 @@ module _ {J O : Type 0} (size : ℕ) (h : List (Entry J O)) (st : Stage J O) (b 
 
   attempt_goes_on : (k f : ℕ) → (attempt_begun k h ≡ Some f) ⊎ (f ≡ n) → (f ≤ n) × Fresh (Helper k) f order
   attempt_goes_on k f (inl was) = let (early, fresh) = kept.attempts k f was in (omega arith, fresh)
-  attempt_goes_on k f (inr is) = (omega arith, subst (λ (x : ℕ). Fresh (Helper k) x order) (sym is) (new_fresh (Helper k)))
+  attempt_goes_on k f (inr is) = (omega arith, rw is (new_fresh (Helper k)))
 
   same_attempts_go : SameAttempts → AttemptsGo
   same_attempts_go same k f is = inl (sym (same k) ∙ is)
@@ -225,11 +211,11 @@ module _ {J O : Type 0} (size : ℕ) (h : List (Entry J O)) (st : Stage J O) (b 
   -- the owner's operation stays as it was, and the call is no operation
   unchanged : (st' : Stage J O) (b' : Plain J O) → SameOwner → AttemptsGo → ending ≡ None → st' ≡ st → b' ≡ b → Next st' b'
   unchanged st' b' same attempts none stage same_board =
-      subst (λ (s : Stage J O). Next s b') (sym stage)
+      rw stage
       (quiet st b' same_board
-      (subst (λ (x : Option (Begun J O)). Standing st x n order) (sym same) (standing_later st (owner_begun h) (length h) order kept.owner))
+      (rw same (standing_later st (owner_begun h) (length h) order kept.owner))
       (λ k f is. attempt_goes_on k f (attempts k f is))
-      (found_none order none)
+      (λ op is. cc)
       (goes_on_same same))
 
   -- and the call is an operation by itself
@@ -237,10 +223,10 @@ module _ {J O : Type 0} (size : ℕ) (h : List (Entry J O)) (st : Stage J O) (b 
   by_itself till deed st' b' same attempts is stage answers =
       let p : Place J O = record { till = till; first = n; at = n; deed = deed; answer = a } in
       let op : Operation J O = record { till = till; first = n; last = n; deed = deed; answer = a } in
-      let its : Places op p = record { till = refl; first = refl; after_first = omega arith; before_last = omega arith; deed = refl; answer = refl } in
-      subst (λ (s : Stage J O). Next s b') (sym stage)
+      let its : Places op p = search arith in
+      rw stage
       (adds st b' p refl (omega arith) (new_fresh till) answers
-      (subst (λ (x : Option (Begun J O)). Standing st x n (p ∷ order)) (sym same) (standing_more st (owner_begun h) (length h) p order (λ _. refl) kept.owner))
+      (rw same (standing_more st (owner_begun h) (length h) p order (λ _. refl) kept.owner))
       (attempting_same p attempts (λ k _. refl))
       (found_here p op is its)
       (inl (op, is, its))
@@ -249,9 +235,9 @@ module _ {J O : Type 0} (size : ℕ) (h : List (Entry J O)) (st : Stage J O) (b 
   -- a refused call, with a test whether it is an operation
   refused : (till : Party) (deed : Deed J O) (test : Bool) (st' : Stage J O) (b' : Plain J O) (ev : Event J O) → SameOwner → SameAttempts → ending ≡ cond test (operation till n n deed a) None → st' ≡ st → ev ≡ cond test (places deed a) nothing → Happens b ev b' → Next st' b'
   refused till deed true st' b' ev same attempts is stage event happens =
-      by_itself till deed st' b' same attempts is stage (subst (λ (v : Event J O). Happens b v b') event happens)
+      by_itself till deed st' b' same attempts is stage (rw event at happens)
   refused till deed false st' b' ev same attempts is stage event happens =
-      unchanged st' b' same (same_attempts_go attempts) is stage (subst (λ (v : Event J O). Happens b v b') event happens)
+      unchanged st' b' same (same_attempts_go attempts) is stage (rw event at happens)
 
   -- an owner's operation begins, and stands at its first call
   begins_placed : (deed : Deed J O) (answer : Answer J O) (b' : Plain J O) → owner_begun h ≡ None → owner_begun (e ∷ h) ≡ Some (record { first = n; deed = deed }) → SameAttempts → ending ≡ None → does b deed ≡ Some (record { answer = answer; board = b' }) → Next (placed answer) b'
@@ -261,18 +247,18 @@ module _ {J O : Type 0} (size : ℕ) (h : List (Entry J O)) (st : Stage J O) (b 
         record { first = n; deed = deed },
         begun,
         omega arith,
-        (p, inl refl, record { till = refl; first = refl; after_first = omega arith; deed = refl; answer = refl }),
+        (p, inl refl, search arith),
         each (λ q. q.till ≡ Owner → q.first ≡ n → q.answer ≡ answer) p order (λ _ _. refl) (λ q among till first. absurd (new_fresh Owner q among till first)),
       )
       (attempting_same p attempts (λ k _. refl))
-      (found_none (p ∷ order) none)
-      (inr (record { till = refl; begun = begun; after_first = omega arith }))
-      (goes_on_none rest)
+      (λ op is. cc)
+      (inr (search arith))
+      (λ p among goes. cc)
 
   -- a pop begins, and stands nowhere yet
   begins_unplaced : (b' : Plain J O) → owner_begun h ≡ None → owner_begun (e ∷ h) ≡ Some (record { first = n; deed = pops }) → SameAttempts → ending ≡ None → b' ≡ b → Next unplaced b'
   begins_unplaced b' rest begun attempts none same_board =
-      quiet unplaced b' same_board (n, begun, omega arith, new_fresh Owner) (λ k f is. attempt_goes_on k f (same_attempts_go attempts k f is)) (found_none order none) (goes_on_none rest)
+      quiet unplaced b' same_board (n, begun, omega arith, new_fresh Owner) (λ k f is. attempt_goes_on k f (same_attempts_go attempts k f is)) (λ op is. cc) (λ p among goes. cc)
 
   -- a pop under way is placed at this call, and goes on
   step_places : (answer : Answer J O) (b' : Plain J O) → Stood unplaced → SameOwner → SameAttempts → ending ≡ None → does b pops ≡ Some (record { answer = answer; board = b' }) → Next (placed answer) b'
@@ -283,11 +269,11 @@ module _ {J O : Type 0} (size : ℕ) (h : List (Entry J O)) (st : Stage J O) (b 
         record { first = f; deed = pops },
         same ∙ is,
         omega arith,
-        (p, inl refl, record { till = refl; first = refl; after_first = omega arith; deed = refl; answer = refl }),
+        (p, inl refl, search arith),
         each (λ q. q.till ≡ Owner → q.first ≡ f → q.answer ≡ answer) p order (λ _ _. refl) (λ q among till first. absurd (fresh q among till first)),
       )
-      (attempting_same p attempts (λ k till. not_helper Owner k refl till))
-      (found_none (p ∷ order) none)
+      (attempting_same p attempts (λ k till. cc))
+      (λ op is. cc)
       (inr (record { till = refl; begun = same ∙ is; after_first = omega arith }))
       (goes_on_same same)
 
@@ -300,13 +286,13 @@ module _ {J O : Type 0} (size : ℕ) (h : List (Entry J O)) (st : Stage J O) (b 
       let (f, is, early, fresh) = stands in
       let p : Place J O = record { till = Owner; first = f; at = n; deed = pops; answer = a } in
       let op : Operation J O = record { till = Owner; first = f; last = n; deed = pops; answer = a } in
-      let its : Places op p = record { till = refl; first = refl; after_first = omega arith; before_last = omega arith; deed = refl; answer = refl } in
+      let its : Places op p = search arith in
       let it_ends = ends_begun (record { first = f; deed = pops }) is in
       adds resting b' p refl (omega arith) fresh answers none
-      (attempting_same p attempts (λ k till. not_helper Owner k refl till))
+      (attempting_same p attempts (λ k till. cc))
       (found_here p op it_ends its)
       (inl (op, it_ends, its))
-      (λ q among goes. let first : q.first ≡ f = ap (λ (g : Begun J O). g.first) (same_some (owner_begun h) _ _ goes.begun is) in absurd (fresh q among goes.till first))
+      (λ q among goes. let first : q.first ≡ f = ap (λ (g : Begun J O). g.first) (same_Some _ _ (sym goes.begun ∙ is)) in absurd (fresh q among goes.till first))
 
   -- the owner's operation stands already, and ends with the answer it stands with
   step_ends_placed : (b' : Plain J O) → Stood (placed a) → owner_begun (e ∷ h) ≡ None → SameAttempts → EndsBegun → b' ≡ b → Next resting b'
@@ -317,34 +303,15 @@ module _ {J O : Type 0} (size : ℕ) (h : List (Entry J O)) (st : Stage J O) (b 
       let it_ends = ends_begun g is in
       quiet resting b' same_board none (λ k f is. attempt_goes_on k f (same_attempts_go attempts k f is))
       (λ op' is'.
-      let equal : op ≡ op' = cc (it_ends, is') in (
-        p,
-        among,
-        subst (λ (x : Operation J O). Places x p) equal (record {
-          till = stood.till;
-          first = stood.first;
-          after_first = stood.after_first;
-          before_last = omega (arith, (kept.within p among).at_most);
-          deed = stood.deed;
-          answer = stood.answer;
-        }),
-      ))
+      let equal : op ≡ op' = cc (it_ends, is') in
+      let its : Places op p = search (arith, kept.within p among) in
+      (p, among, rw equal at its))
       (λ q q_among goes.
-      let begun = same_some (owner_begun h) _ _ goes.begun is in
+      let begun : record { first = q.first; deed = q.deed } ≡ g = cc goes.begun in
       let first : q.first ≡ g.first = ap (λ (x : Begun J O). x.first) begun in
       let deed : q.deed ≡ g.deed = ap (λ (x : Begun J O). x.deed) begun in
-      inl (
-        op,
-        it_ends,
-        record {
-          till = goes.till;
-          first = first;
-          after_first = omega (arith, goes.after_first);
-          before_last = omega (arith, (kept.within q q_among).at_most);
-          deed = deed;
-          answer = same q q_among goes.till first;
-        },
-      ))
+      let given : q.answer ≡ a = same q q_among goes.till first in
+      inl (op, it_ends, search (arith, kept.within q q_among)))
 
   -- an attempt ends in TAKEN, and is placed there
   first_is_fresh : (k : ℕ) (o : Option ℕ) → attempt_begun k h ≡ o → (first_call n o ≤ n) × Fresh (Helper k) (first_call n o) order
@@ -357,12 +324,12 @@ module _ {J O : Type 0} (size : ℕ) (h : List (Entry J O)) (st : Stage J O) (b 
       let (early, fresh) = first_is_fresh k (attempt_begun k h) refl in
       let p : Place J O = record { till = Helper k; first = f; at = n; deed = takes k; answer = a } in
       let op : Operation J O = record { till = Helper k; first = f; last = n; deed = takes k; answer = a } in
-      let its : Places op p = record { till = refl; first = refl; after_first = early; before_last = omega arith; deed = refl; answer = refl } in
+      let its : Places op p = search arith in
       adds st b' p refl early fresh answers
-      (subst (λ (x : Option (Begun J O)). Standing st x n (p ∷ order)) (sym same) (standing_more st (owner_begun h) (length h) p order (λ till. not_helper (Helper k) k till refl) kept.owner))
+      (rw same (standing_more st (owner_begun h) (length h) p order (λ till. cc) kept.owner))
       (λ j f' begun.
-      by_test (λ (o : Option ℕ). o ≡ Some f' → (f' ≤ n) × Fresh (Helper j) f' (p ∷ order)) (eqb k j) None (attempt_begun j h)
-      (λ _ none. no_some None f' refl none)
+      cond_both _ _ _ (λ (o : Option ℕ). o ≡ Some f' → (f' ≤ n) × Fresh (Helper j) f' (p ∷ order))
+      (λ _ none. cc)
       (λ apart was.
       let (before, not_there) = kept.attempts j f' was in
       (omega arith, fresh_more (Helper j) f' p order (λ till _. let equal : k ≡ j = cc in eqb-false k j apart equal) not_there))
@@ -375,15 +342,11 @@ module _ {J O : Type 0} (size : ℕ) (h : List (Entry J O)) (st : Stage J O) (b 
     abbrev Then : Type 0
     Then = Next st' b'
 
-    -- what the event is
-    event : (v : Event J O) → ev ≡ v → Happens b v b'
-    event v is = subst (λ (x : Event J O). Happens b x b') is happens
-
-    to_stage : (s : Stage J O) → st' ≡ s → Next s b' → Then
-    to_stage s is next = subst (λ (x : Stage J O). Next x b') (sym is) next
-
-    stood : (s : Stage J O) → st ≡ s → Stood s
-    stood s is = subst Stood is kept.owner
+    -- the owner's call begins this operation, or is one by itself
+    record Starts (deed : Deed J O) (p : Progress) : Type 0 where
+      owner : owner_begun (e ∷ h) ≡ begins p n deed (owner_begun h)
+      attempts : SameAttempts
+      last : ending ≡ alone Owner n deed a p
 
     -- what follows from the call and from how it went
     module _ (c : Call J O) (asks : e.call ≡ c) where
@@ -396,51 +359,44 @@ module _ {J O : Type 0} (size : ℕ) (h : List (Entry J O)) (st : Stage J O) (b 
       ending_is : ending ≡ ends n c a h
       ending_is = λ i. ends n (asks i) a h
 
-    push_kept : (job : J) → e.call ≡ Push job → (p : Progress) → progress a ≡ p → PushAllowed job a p st st' ev → Then
-    push_kept job asks going is allowed =
-        let (rest, stage, event_is) = allowed in
-        to_stage (placed Pushed) stage
-        (begins_placed (pushes job) Pushed b' (stood resting rest) (owner_is (Push job) asks going is) (λ k. attempt_is (Push job) asks k going is) (ending_is (Push job) asks ∙ ap (alone Owner n (pushes job) a) is) (event _ event_is))
-    push_kept job asks ended is allowed = absurd allowed
-    push_kept job asks (barred r) is allowed =
-        let (stage, event_is) = allowed in
-        refused Owner (pushes job) (is_operation r) st' b' ev (owner_is (Push job) asks (barred r) is) (λ k. attempt_is (Push job) asks k (barred r) is) (ending_is (Push job) asks ∙ ap (alone Owner n (pushes job) a) is) stage event_is happens
+      starts : (deed : Deed J O) → owner_after n c (progress a) (owner_begun h) ≡ begins (progress a) n deed (owner_begun h) → ((k : ℕ) → attempt_after k n c (progress a) (attempt_begun k h) ≡ attempt_begun k h) → ends n c a h ≡ alone Owner n deed a (progress a) → Starts deed (progress a)
+      starts deed owner attempts last = record {
+        owner = owner_is (progress a) refl ∙ owner;
+        attempts = λ k. attempt_is k (progress a) refl ∙ attempts k;
+        last = ending_is ∙ last;
+      }
 
-    pop_begins : e.call ≡ Pop → progress a ≡ going → st ≡ resting → ((st' ≡ unplaced) × (ev ≡ nothing)) ⊎ ((job : J) × (st' ≡ placed (Work job)) × (ev ≡ places pops (Work job))) → Then
-    pop_begins asks is rest (inl way) =
+    -- it stands at its first call
+    starts_placed : (deed : Deed J O) (answer : Answer J O) → Starts deed going → st ≡ resting → st' ≡ placed answer → ev ≡ places deed answer → Then
+    starts_placed deed answer s rest stage event_is = rw stage (begins_placed deed answer b' (rw rest at kept.owner) s.owner s.attempts s.last (rw event_is at happens))
+
+    -- or ends at once
+    starts_ended : (deed : Deed J O) → Starts deed ended → st ≡ resting → st' ≡ resting → ev ≡ places deed a → Then
+    starts_ended deed s rest stage event_is = by_itself Owner deed st' b' (s.owner ∙ sym (rw rest at kept.owner)) s.attempts s.last (stage ∙ sym rest) (rw event_is at happens)
+
+    starts_refused : (deed : Deed J O) (r : Refusal) → Starts deed (barred r) → st' ≡ st → ev ≡ cond (is_operation r) (places deed a) nothing → Then
+    starts_refused deed r s stage event_is = refused Owner deed (is_operation r) st' b' ev s.owner s.attempts s.last stage event_is happens
+
+    push_kept : (job : J) (p : Progress) → Starts (pushes job) p → PushAllowed job a p st st' ev → Then
+    push_kept job going s allowed = let (rest, stage, event_is) = allowed in starts_placed (pushes job) Pushed s rest stage event_is
+    push_kept job ended s allowed = absurd allowed
+    push_kept job (barred r) s allowed = let (stage, event_is) = allowed in starts_refused (pushes job) r s stage event_is
+
+    pop_begins : Starts pops going → st ≡ resting → ((st' ≡ unplaced) × (ev ≡ nothing)) ⊎ ((job : J) × (st' ≡ placed (Work job)) × (ev ≡ places pops (Work job))) → Then
+    pop_begins s rest (inl way) =
         let (stage, event_is) = way in
-        to_stage unplaced stage
-        (begins_unplaced b' (stood resting rest) (owner_is Pop asks going is) (λ k. attempt_is Pop asks k going is) (ending_is Pop asks ∙ ap (alone Owner n pops a) is) (event _ event_is))
-    pop_begins asks is rest (inr way) =
-        let (job, stage, event_is) = way in
-        to_stage (placed (Work job)) stage
-        (begins_placed pops (Work job) b' (stood resting rest) (owner_is Pop asks going is) (λ k. attempt_is Pop asks k going is) (ending_is Pop asks ∙ ap (alone Owner n pops a) is) (event _ event_is))
+        rw stage (begins_unplaced b' (rw rest at kept.owner) s.owner s.attempts s.last (rw event_is at happens))
+    pop_begins s rest (inr way) = let (job, stage, event_is) = way in starts_placed pops (Work job) s rest stage event_is
 
-    -- a pop or retire that ends at once
-    at_once : (deed : Deed J O) → st ≡ resting → st' ≡ resting → ev ≡ places deed a → owner_begun (e ∷ h) ≡ None → SameAttempts → ending ≡ operation Owner n n deed a → Then
-    at_once deed rest stage event_is none attempts is =
-        by_itself Owner deed st' b' (none ∙ sym (stood resting rest)) attempts is (stage ∙ sym rest) (event _ event_is)
+    pop_kept : (p : Progress) → Starts pops p → PopAllowed a p st st' ev → Then
+    pop_kept going s allowed = let (rest, way) = allowed in pop_begins s rest way
+    pop_kept ended s allowed = let (rest, stage, event_is) = allowed in starts_ended pops s rest stage event_is
+    pop_kept (barred r) s allowed = let (stage, event_is) = allowed in starts_refused pops r s stage event_is
 
-    pop_kept : e.call ≡ Pop → (p : Progress) → progress a ≡ p → PopAllowed a p st st' ev → Then
-    pop_kept asks going is allowed = let (rest, way) = allowed in pop_begins asks is rest way
-    pop_kept asks ended is allowed =
-        let (rest, stage, event_is) = allowed in
-        at_once pops rest stage event_is (owner_is Pop asks ended is) (λ k. attempt_is Pop asks k ended is) (ending_is Pop asks ∙ ap (alone Owner n pops a) is)
-    pop_kept asks (barred r) is allowed =
-        let (stage, event_is) = allowed in
-        refused Owner pops (is_operation r) st' b' ev (owner_is Pop asks (barred r) is) (λ k. attempt_is Pop asks k (barred r) is) (ending_is Pop asks ∙ ap (alone Owner n pops a) is) stage event_is happens
-
-    retire_kept : e.call ≡ Retire → (p : Progress) → progress a ≡ p → RetireAllowed a p st st' ev → Then
-    retire_kept asks going is allowed =
-        let (outcome, rest, stage, event_is) = allowed in
-        to_stage (placed (Retired outcome)) stage
-        (begins_placed retires (Retired outcome) b' (stood resting rest) (owner_is Retire asks going is) (λ k. attempt_is Retire asks k going is) (ending_is Retire asks ∙ ap (alone Owner n retires a) is) (event _ event_is))
-    retire_kept asks ended is allowed =
-        let (rest, stage, event_is) = allowed in
-        at_once retires rest stage event_is (owner_is Retire asks ended is) (λ k. attempt_is Retire asks k ended is) (ending_is Retire asks ∙ ap (alone Owner n retires a) is)
-    retire_kept asks (barred r) is allowed =
-        let (stage, event_is) = allowed in
-        refused Owner retires (is_operation r) st' b' ev (owner_is Retire asks (barred r) is) (λ k. attempt_is Retire asks k (barred r) is) (ending_is Retire asks ∙ ap (alone Owner n retires a) is) stage event_is happens
+    retire_kept : (p : Progress) → Starts retires p → RetireAllowed a p st st' ev → Then
+    retire_kept going s allowed = let (outcome, rest, stage, event_is) = allowed in starts_placed retires (Retired outcome) s rest stage event_is
+    retire_kept ended s allowed = let (rest, stage, event_is) = allowed in starts_ended retires s rest stage event_is
+    retire_kept (barred r) s allowed = let (stage, event_is) = allowed in starts_refused retires r s stage event_is
 
     module _ (asks : e.call ≡ OwnerStep) where
       step_ending : (p : Progress) → progress a ≡ p → ending ≡ step_ends n a p (owner_begun h)
@@ -452,11 +408,11 @@ module _ {J O : Type 0} (size : ℕ) (h : List (Entry J O)) (st : Stage J O) (b 
       step_goes : progress a ≡ going → ((st ≡ resting → ⊥) × (st' ≡ st) × (ev ≡ nothing)) ⊎ ((job : J) × (st ≡ unplaced) × (st' ≡ placed (Work job)) × (ev ≡ places pops (Work job))) → Then
       step_goes is (inl way) =
           let (some, stage, event_is) = way in
-          unchanged st' b' (owner_is OwnerStep asks going is) (same_attempts_go (step_attempts going is)) (step_ending going is) stage (event _ event_is)
+          unchanged st' b' (owner_is OwnerStep asks going is) (same_attempts_go (step_attempts going is)) (step_ending going is) stage (rw event_is at happens)
       step_goes is (inr way) =
           let (job, was, stage, event_is) = way in
-          to_stage (placed (Work job)) stage
-          (step_places (Work job) b' (stood unplaced was) (owner_is OwnerStep asks going is) (step_attempts going is) (step_ending going is) (event _ event_is))
+          rw stage
+          (step_places (Work job) b' (rw was at kept.owner) (owner_is OwnerStep asks going is) (step_attempts going is) (step_ending going is) (rw event_is at happens))
 
       ends_begun : progress a ≡ ended → EndsBegun
       ends_begun is g begun = step_ending ended is ∙ ap (step_ends n a ended) begun
@@ -464,19 +420,19 @@ module _ {J O : Type 0} (size : ℕ) (h : List (Entry J O)) (st : Stage J O) (b 
       step_last : progress a ≡ ended → ((st ≡ placed a) × (st' ≡ resting) × (ev ≡ nothing)) ⊎ ((st ≡ unplaced) × (st' ≡ resting) × (ev ≡ places pops a)) → Then
       step_last is (inl way) =
           let (was, stage, event_is) = way in
-          to_stage resting stage
-          (step_ends_placed b' (stood (placed a) was) (owner_is OwnerStep asks ended is) (step_attempts ended is) (ends_begun is) (event _ event_is))
+          rw stage
+          (step_ends_placed b' (rw was at kept.owner) (owner_is OwnerStep asks ended is) (step_attempts ended is) (ends_begun is) (rw event_is at happens))
       step_last is (inr way) =
           let (was, stage, event_is) = way in
-          to_stage resting stage
-          (step_places_last b' (stood unplaced was) (owner_is OwnerStep asks ended is) (step_attempts ended is) (ends_begun is) (event _ event_is))
+          rw stage
+          (step_places_last b' (rw was at kept.owner) (owner_is OwnerStep asks ended is) (step_attempts ended is) (ends_begun is) (rw event_is at happens))
 
       step_kept : (p : Progress) → progress a ≡ p → StepAllowed a p st st' ev → Then
       step_kept going is allowed = step_goes is allowed
       step_kept ended is allowed = step_last is allowed
       step_kept (barred r) is allowed =
           let (stage, event_is) = allowed in
-          unchanged st' b' (owner_is OwnerStep asks (barred r) is) (same_attempts_go (step_attempts (barred r) is)) (step_ending (barred r) is) stage (event _ event_is)
+          unchanged st' b' (owner_is OwnerStep asks (barred r) is) (same_attempts_go (step_attempts (barred r) is)) (step_ending (barred r) is) stage (rw event_is at happens)
 
     module _ (k : ℕ) (asks : e.call ≡ HelperStep k) (stage : st' ≡ st) where
       attempt_same_owner : SameOwner
@@ -488,62 +444,50 @@ module _ {J O : Type 0} (size : ℕ) (h : List (Entry J O)) (st : Stage J O) (b 
       goes_from : (p : Progress) (o : Option ℕ) (f : ℕ) → attempt_goes p n o ≡ Some f → (o ≡ Some f) ⊎ (f ≡ n)
       goes_from going None f is = inr cc
       goes_from going (Some first) f is = inl is
-      goes_from ended o f is = no_some None f refl is
+      goes_from ended o f is = cc
       goes_from (barred r) o f is = inl is
 
       attempts_go : AttemptsGo
       attempts_go j f is =
-          by_test (λ (o : Option ℕ). o ≡ Some f → (attempt_begun j h ≡ Some f) ⊎ (f ≡ n)) (eqb k j) (attempt_goes (progress a) n (attempt_begun j h)) (attempt_begun j h)
+          cond_both _ _ _ (λ (o : Option ℕ). o ≡ Some f → (attempt_begun j h ≡ Some f) ⊎ (f ≡ n))
           (λ _ goes. goes_from (progress a) (attempt_begun j h) f goes)
           (λ _ was. inl was)
           (sym (attempt_is (HelperStep k) asks j (progress a) refl) ∙ is)
 
-      -- an attempt that is no operation
-      attempt_quiet : ending ≡ None → ev ≡ nothing → Then
-      attempt_quiet none event_is = unchanged st' b' attempt_same_owner attempts_go none stage (event _ event_is)
-
       attempt_kept : (x : Answer J O) → a ≡ x → AttemptAllowed k x ev → Then
-      attempt_kept Going is allowed = attempt_quiet (attempt_ending Going is) allowed
-      attempt_kept Pushed is allowed = absurd allowed
-      attempt_kept (Work job) is allowed = absurd allowed
-      attempt_kept Stolen is allowed = absurd allowed
-      attempt_kept (Retired outcome) is allowed = absurd allowed
       attempt_kept (Taken job) is allowed =
-          to_stage st stage
+          rw stage
           (takes_placed k b' attempt_same_owner (λ j. attempt_is (HelperStep k) asks j ended (ap progress is))
           (attempt_ending (Taken job) is ∙ ap (operation (Helper k) (first_call n (attempt_begun k h)) n (takes k)) (sym is))
-          (event _ (allowed ∙ ap (places (takes k)) (sym is))))
-      attempt_kept AllGone is allowed = attempt_quiet (attempt_ending AllGone is) allowed
-      attempt_kept NoShare is allowed = attempt_quiet (attempt_ending NoShare is) allowed
-      attempt_kept Changed is allowed = attempt_quiet (attempt_ending Changed is) allowed
-      attempt_kept Finished is allowed = absurd allowed
+          (rw (allowed ∙ ap (places (takes k)) (sym is)) at happens))
       attempt_kept (Refused r) is allowed =
           refused (Helper k) (takes k) (is_operation r) st' b' ev attempt_same_owner
-          (λ j. attempt_is (HelperStep k) asks j (barred r) (ap progress is) ∙ by_test (λ (o : Option ℕ). o ≡ attempt_begun j h) (eqb k j) _ _ (λ _. refl) (λ _. refl))
+          (λ j. attempt_is (HelperStep k) asks j (barred r) (ap progress is) ∙ cond_both _ _ _ (λ (o : Option ℕ). o ≡ attempt_begun j h) (λ _. refl) (λ _. refl))
           (attempt_ending (Refused r) is ∙ ap (λ (y : Answer J O). cond (is_operation r) (operation (Helper k) n n (takes k) y) None) (sym is))
           stage
           (allowed ∙ ap (λ (y : Answer J O). cond (is_operation r) (places (takes k) y) nothing) (sym is))
           happens
+      attempt_kept x is allowed = unchanged st' b' attempt_same_owner attempts_go (attempt_ending x is) stage (rw allowed at happens)
 
     finish_kept : (k : ℕ) (outcome : O) → e.call ≡ Finish k outcome → st' ≡ st → (p : Progress) → progress a ≡ p → FinishAllowed k outcome a p ev → Then
     finish_kept k outcome asks stage going is allowed = absurd allowed
     finish_kept k outcome asks stage ended is allowed =
         let c : Call J O = Finish k outcome in
-        by_itself (Helper k) (finishes k outcome) st' b' (owner_is c asks ended is) (λ j. attempt_is c asks j ended is) (ending_is c asks ∙ ap (alone (Helper k) n (finishes k outcome) a) is) stage (event _ allowed)
+        by_itself (Helper k) (finishes k outcome) st' b' (owner_is c asks ended is) (λ j. attempt_is c asks j ended is) (ending_is c asks ∙ ap (alone (Helper k) n (finishes k outcome) a) is) stage (rw allowed at happens)
     finish_kept k outcome asks stage (barred r) is allowed =
         let c : Call J O = Finish k outcome in
         refused (Helper k) (finishes k outcome) (is_operation r) st' b' ev (owner_is c asks (barred r) is) (λ j. attempt_is c asks j (barred r) is) (ending_is c asks ∙ ap (alone (Helper k) n (finishes k outcome) a) is) stage allowed happens
 
     call_kept : (c : Call J O) → e.call ≡ c → Allowed c a st st' ev → Then
-    call_kept (Push job) asks allowed = push_kept job asks (progress a) refl allowed
-    call_kept Pop asks allowed = pop_kept asks (progress a) refl allowed
-    call_kept Retire asks allowed = retire_kept asks (progress a) refl allowed
+    call_kept (Push job) asks allowed = push_kept job (progress a) (starts (Push job) asks (pushes job) refl (λ _. refl) refl) allowed
+    call_kept Pop asks allowed = pop_kept (progress a) (starts Pop asks pops refl (λ _. refl) refl) allowed
+    call_kept Retire asks allowed = retire_kept (progress a) (starts Retire asks retires refl (λ _. refl) refl) allowed
     call_kept OwnerStep asks allowed = step_kept asks (progress a) refl allowed
     call_kept (HelperStep k) asks allowed = let (stage, way) = allowed in attempt_kept k asks stage a refl way
     call_kept (Finish k outcome) asks allowed = let (stage, way) = allowed in finish_kept k outcome asks stage (progress a) refl way
     call_kept Land asks allowed =
         let (stage, event_is) = allowed in
-        unchanged st' b' (owner_is Land asks (progress a) refl) (same_attempts_go (λ k. attempt_is Land asks k (progress a) refl)) (ending_is Land asks) stage (event _ event_is)
+        unchanged st' b' (owner_is Land asks (progress a) refl) (same_attempts_go (λ k. attempt_is Land asks k (progress a) refl)) (ending_is Land asks) stage (rw event_is at happens)
 
 pub kept_more : {J O : Type 0} (size : ℕ) (h : List (Entry J O)) (st st' : Stage J O) (b b' : Plain J O) (order : List (Place J O)) (e : Entry J O) (ev : Event J O) → Kept size h st b order → Allowed e.call e.reply.answer st st' ev → Happens b ev b' → (more : List (Place J O)) × Kept size (e ∷ h) st' b' (more ++ order)
 kept_more size h st st' b b' order e ev kept allowed happens = call_kept size h st b order kept e st' b' ev happens e.call refl allowed

@@ -1,5 +1,5 @@
 -- The law over runs: what a board keeps, call by call, from its making on. Assumes nothing.
-use Rattle.std.proofs.Common.{◌≡◌, ℕ, List, [], ◌∷◌, ◌++◌, length, sym, refl, ap, subst, append_assoc, append-nil}
+use Rattle.std.proofs.Common.{◌≡◌, ℕ, List, [], ◌∷◌, ◌++◌, length, sym, ap, subst, append_assoc, append-nil}
 use Rattle.model.specs.Calls.{effect_of, Entry, Makes}
 use Rattle.model.specs.Histories.{New, Runs, JobsAddUp, NumbersInRange}
 use Rattle.model.specs.Keeping.{Sound}
@@ -31,8 +31,8 @@ module _ {J O : Type 0} where
     sound = start_sound s new;
     safe = start_safe s new;
     cells = cells_new s new;
-    summed = subst (λ x. Summed [] x 0) (sym new.made) refl;
-    kept = subst (λ x. Kept s.owner.size [] (stage x.owner.phase) (plain_of x) []) (sym new.made) (kept_new s.owner.size);
+    summed = rw new.made;
+    kept = rw new.made (kept_new s.owner.size);
   }
 
   made_stands : (size : ℕ) (h : List (Entry J O)) (s s' : State J O) (order : List (Place J O)) (e : Entry J O) → Stands size h s order → Makes s e s' → (more : List (Place J O)) × Stands size (e ∷ h) s' (more ++ order)
@@ -53,21 +53,20 @@ module _ {J O : Type 0} where
         summed = summed_next s R stands.sound h e stands.safe.told answer stands.summed;
         kept = kept;
       } in
-      (more, subst (λ x. Stands size (e ∷ h) x (more ++ order)) (sym makes.moves) next)
+      (more, rw makes.moves next)
 
   -- a run goes on from where another stands, and its order begins with the other's
   runs_stand : (size : ℕ) (h : List (Entry J O)) (s s' : State J O) (order : List (Place J O)) → Stands size h s order → (h' : List (Entry J O)) → Runs s h' s' → (more : List (Place J O)) × Stands size (h' ++ h) s' (more ++ order)
-  runs_stand size h s s' order stands [] runs = ([], subst (λ x. Stands size h x order) (sym runs) stands)
+  runs_stand size h s s' order stands [] runs = ([], rw runs stands)
   runs_stand size h s s' order stands (e ∷ h') (before, runs, makes) =
       let (more, then) = runs_stand size h s before order stands h' runs in
       let (one, last) = made_stands size (h' ++ h) before s' (more ++ order) e then makes in
-      (one ++ more, subst (λ l. Stands size (e ∷ (h' ++ h)) s' l) (sym (append_assoc one more order)) last)
+      (one ++ more, rw append_assoc last)
 
   from_start : (start s : State J O) (h : List (Entry J O)) → New start → Runs start h s → (order : List (Place J O)) × Stands start.owner.size h s order
   from_start start s h new runs =
       let (order, stands) = runs_stand start.owner.size [] start s [] (start_stands start new) h runs in
-      let as_given : h ++ [] ≡ h = append-nil h in
-      (order ++ [], subst (λ k. Stands start.owner.size k s (order ++ [])) as_given stands)
+      (order ++ [], rw (append-nil h) at stands)
 
 pub one_order : (J O : Type 0) → OneOrderOf {J = J} {O = O} {S = State J O} (λ s. s.owner.size) New Runs
 one_order J O start s h new runs =

@@ -1,6 +1,6 @@
 -- Each call does one thing to the plain board that the cells below head make, or nothing, and keeps the cells and the helpers
 -- fitting. Assumes nothing.
-use Rattle.std.proofs.Common.{◌≡◌, ℕ, ◌+◌, ◌-◌, ◌/◌, ◌<◌, ◌≤◌, min, Bool, true, false, cond, eqb, ltb, List, [], ◌∷◌, ◌++◌, length, take, is_some, Some, None, Option, sym, refl, ap, ◌∙◌, subst, inl, inr, arith, length-take-le, take-take, ltb-false, ltb-true}
+use Rattle.std.proofs.Common.{◌≡◌, ℕ, ◌+◌, ◌-◌, ◌/◌, ◌<◌, ◌≤◌, min, Bool, true, false, eqb, ltb, List, length, take, is_some, Some, None, Option, sym, refl, ap, ◌∙◌, inl, inr, arith, length-take-le, take-take, ltb-false, ltb-true}
 use borrow.Author.Tests.{eqb-false}
 use Rattle.calls.specs.declared.call.Call.{Call}
 use Rattle.calls.specs.declared.call.Call.TheVariants.{Push, Pop, Retire, OwnerStep, HelperStep, Finish, Land}
@@ -9,9 +9,9 @@ use Rattle.model.specs.Calls.{with_cells, effect_of}
 use Rattle.model.specs.Helping.{marked, with_outcome, swap_at, step_aimed, step_of, helper_step, finish_aimed, finish_of, finish}
 use Rattle.model.specs.Keeping.{InRange, PhaseFits, Sound}
 use Rattle.model.specs.Orders.{going, progress}
-use Rattle.model.specs.Owning.{idle, begun, ending_answer, working, top, push, popped, pop, retired, retired_with, retire, owner_step_at, owner_step}
-use Rattle.model.specs.Places.{at, at_number, changed}
-use Rattle.model.specs.Plain.{Plain, pushes, pops, retires, takes, finishes, answers, refuses, oldest_untaken, place_held, plain_pop, plain_retire, plain_take, plain_finish, does}
+use Rattle.model.specs.Owning.{idle, ending_answer, working, top, push, popped, pop, retired, retired_with, retire, owner_step_at, owner_step}
+use Rattle.model.specs.Places.{at, at_number, changed, new_cell}
+use Rattle.model.specs.Plain.{Plain, pushes, pops, retires, takes, finishes, oldest_untaken, place_held, plain_pop, plain_retire, plain_take, plain_finish, does}
 use Rattle.model.specs.State.{State, Effect, refused, owns, with_split, with_flag, with_phase, state_after}
 use Rattle.model.specs.declared.cell.Cell.{Cell}
 use Rattle.model.specs.declared.helper.Aim.{Aim}
@@ -31,23 +31,13 @@ use Rattle.model.specs.declared.reply.Answer.{Answer}
 use Rattle.model.specs.declared.reply.Answer.TheVariants.{Going, Pushed, Work, Stolen, Retired, Taken, AllGone, NoShare, Changed, Finished, Refused}
 use Rattle.model.specs.declared.reply.Refusal.{Refusal}
 use Rattle.model.specs.declared.reply.Refusal.TheVariants.{UnknownHelper, Holding, HoldsNone, Busy, NothingBegun, Full, Empty, NotTold, Unfinished, Misread, WrongCells}
-use Rattle.model.proofs.Cells.{HoldsNothing, Fitting, TopJob, JobFits, job_stays, fit_push, fit_lower, fit_retire, fit_aims, fit_takes, fit_finish, plain_holds_none, plain_holds, CellsFit}
-use Rattle.model.proofs.Entries.{numbered, number_positive, number_of, take_at, take_number, take_changed, take_newest, oldest_is}
+use Rattle.model.proofs.Cells.{Fitting, TopJob, JobFits, job_stays, fit_push, fit_lower, fit_retire, fit_aims, fit_takes, fit_finish, plain_holds_none, plain_holds, CellsFit}
+use Rattle.model.proofs.Entries.{taken_stays, free_stays, numbered, number_positive, number_of, take_at, take_number, take_changed, take_newest, oldest_is}
 use Rattle.model.proofs.Events.{Stage, resting, unplaced, placed, stage, Event, nothing, places, StepAllowed, AttemptAllowed, Allowed, Happens}
-use Rattle.model.proofs.Ways.{by_test, never, below}
+use Rattle.model.proofs.Ways.{idle_is, HoldsNothing, handed_ways, begun_ways, finish_ways}
+use Rattle.std.proofs.lemmas.Bool.{cond_both}
 use Rattle.model.proofs.Modes.{quiet_no_swap, mode_swap, settled_tail}
-use Rattle.model.proofs.Safe.{Need, quiet, shared, need, MemoryFits, IdleNumbers, Numbers, Safe, next_stolen, bound, need_bound, rest_numbers}
-
-abbrev holding : Aim → Bool
-holding ReadFlag = false
-holding ReadPair = false
-holding (Swap pair) = false
-holding ReadRequest = false
-holding WriteRequest = false
-holding (Hold position) = true
-
-holds_none : (a b : Aim) → a ≡ b → holding b ≡ false → HoldsNothing a
-holds_none a b is no_hold p other = never (sym (ap holding other) ∙ (ap holding is ∙ no_hold))
+use Rattle.model.proofs.Safe.{Need, quiet, shared, need, MemoryFits, Numbers, Safe, next_stolen, bound, need_bound}
 
 -- a passed swap takes the oldest position that is not stolen, and it lies below head
 swap_takes : (size R head t s' : ℕ) (m : memory.Meaning) (d : Need) → MemoryFits size R m d → bound d ≤ head → memory.swap_passes t s' m.words ≡ true → (t ≡ R) × (R < head)
@@ -66,35 +56,14 @@ module _ {J O : Type 0} where
 
   -- a phase with no operation unfinished
   rest_stage : (p : Phase J O) → idle p ≡ true → stage p ≡ resting
-  rest_stage Idle is = refl
-  rest_stage (Opening step) is = never (sym is)
-  rest_stage (Sharing step end) is = never (sym is)
-  rest_stage (Shrinking step job) is = never (sym is)
-  rest_stage Closing is = never (sym is)
-  rest_stage (Retiring outcome) is = never (sym is)
+  rest_stage p is = ap stage (idle_is p is)
 
   rest_job : (head : ℕ) (cells : List (Cell J O)) (p : Phase J O) → idle p ≡ true → JobFits head cells p
-  rest_job head cells Idle is = tt
-  rest_job head cells (Opening step) is = tt
-  rest_job head cells (Sharing step end) is = tt
-  rest_job head cells (Shrinking step job) is = never (sym is)
-  rest_job head cells Closing is = tt
-  rest_job head cells (Retiring outcome) is = tt
+  rest_job head cells p is = rw (idle_is p is) tt
 
   none_stolen : (call : Call J O) (r : Refusal) (R : ℕ) → next_stolen call (Refused r) R ≡ R
-  none_stolen (Push job) r R = refl
-  none_stolen Pop r R = refl
-  none_stolen Retire r R = refl
-  none_stolen OwnerStep r R = refl
-  none_stolen (HelperStep helper) r R = refl
-  none_stolen (Finish helper outcome) r R = refl
   none_stolen Land r R = refl
-
-  not_resting : (a : Answer J O) → placed a ≡ resting → ⊥
-  not_resting a is = let z : ◌≡◌ {A = ℕ} 0 1 = cc in omega arith
-
-  unplaced_not_resting : ◌≡◌ {A = Stage J O} unplaced resting → ⊥
-  unplaced_not_resting is = let z : ◌≡◌ {A = ℕ} 0 1 = cc in omega arith
+  none_stolen call r R = refl
 
 module _ {J O : Type 0} (s : State J O) (R : ℕ) (sound : Sound s.owner) (safe : Safe R s) (cells_fit : CellsFit R s) where
   abbrev o : Owner J O
@@ -133,10 +102,10 @@ module _ {J O : Type 0} (s : State J O) (R : ℕ) (sound : Sound s.owner) (safe 
   as_many = length-take-le head cells all_there
 
   newest_is : (x : Option (Cell J O)) → top s ≡ x → at_number E (length E) ≡ x
-  newest_is x is = ap (at_number E) as_many ∙ (take_number head cells ∙ is)
+  newest_is x is = rw (as_many, take_number head cells) is
 
   older_are : take (length E - 1) E ≡ take (head - 1) cells
-  older_are = ap (λ n. take (n - 1) E) as_many ∙ take-take (head - 1) head cells (omega arith)
+  older_are = rw as_many (take-take (head - 1) head cells (omega arith))
 
   -- the top cell, where all is stolen and where it is not
   top_taken : (c : Cell J O) → top s ≡ Some c → R ≡ head → is_some c.taker ≡ true
@@ -145,27 +114,21 @@ module _ {J O : Type 0} (s : State J O) (R : ℕ) (sound : Sound s.owner) (safe 
       let here = numbered cells head c is in
       let taken = fit.taken (head - 1) (omega arith) in
       let same : c ≡ taken.cell = cc taken.there in
-      ap (λ x. is_some x.taker) same ∙ taken.taken
+      rw same taken.taken
 
   top_free : (c : Cell J O) → top s ≡ Some c → R < head → is_some c.taker ≡ false
   top_free c is less =
       let here = numbered cells head c is in
       let free = fit.free (head - 1) (omega arith) (omega arith) in
       let same : c ≡ free.cell = cc free.there in
-      ap (λ x. is_some x.taker) same ∙ ap is_some free.untaken
+      rw (same, free.untaken)
 
   -- what the plain board answers
   pops_stolen : (c : Cell J O) → top s ≡ Some c → R ≡ head → does b pops ≡ Some (record { answer = Stolen; board = record { size = o.size; entries = E; told = head } })
-  pops_stolen c is all =
-      ap (λ x. Some (plain_pop b x)) (newest_is (Some c) is)
-      ∙ (ap (λ t. Some (cond t (record { answer = Stolen; board = record { size = o.size; entries = E; told = length E } }) (answers b (Work c.job) (take (length E - 1) E)))) (top_taken c is all)
-      ∙ ap (λ n. Some (record { answer = Stolen; board = record { size = o.size; entries = E; told = n } })) as_many)
+  pops_stolen c is all = rw (newest_is (Some c) is, top_taken c is all, as_many)
 
   pops_work : (c : Cell J O) (job : J) → top s ≡ Some c → c.job ≡ job → R < head → does b pops ≡ Some (record { answer = Work job; board = record { size = o.size; entries = take (head - 1) cells; told = o.told } })
-  pops_work c job is same less =
-      ap (λ x. Some (plain_pop b x)) (newest_is (Some c) is)
-      ∙ (ap (λ t. Some (cond t (record { answer = Stolen; board = record { size = o.size; entries = E; told = length E } }) (answers b (Work c.job) (take (length E - 1) E)))) (top_free c is less)
-      ∙ (λ i. Some (record { answer = Work (same i); board = record { size = o.size; entries = older_are i; told = o.told } })))
+  pops_work c job is same less = rw (newest_is (Some c) is, top_free c is less, same, older_are)
 
   -- a refused call changes nothing
   refuses_so : (call : Call J O) (name : Access) (r : Refusal) (ev : Event J O) → Allowed call (Refused r) (stage o.phase) (stage o.phase) ev → Happens b ev b → Follows call (refused s name r)
@@ -173,46 +136,33 @@ module _ {J O : Type 0} (s : State J O) (R : ℕ) (sound : Sound s.owner) (safe 
     event = ev;
     allowed = allowed;
     happens = happens;
-    fitting = subst (λ n. Fitting n s.owner.head s.helpers s.cells) (sym (none_stolen call r R)) fit;
+    fitting = rw (none_stolen call r R) fit;
     job = cells_fit.job;
   }
 
-  begun_follows : (call : Call J O) (name : Access) (e : Effect J O) → Allowed call (Refused Busy) (stage o.phase) (stage o.phase) nothing → (idle o.phase ≡ true → Follows call e) → Follows call (begun s name e)
-  begun_follows call name e allowed follows = by_test (Follows call) (idle o.phase) e (refused s name Busy) follows (λ _. refuses_so call name Busy nothing allowed refl)
-
-  abbrev new_cell : J → Cell J O
-  new_cell job = record { job = job; taker = None; outcome = None }
-
   push_follows : (job : J) → Follows (Push job) (push s job)
   push_follows job =
-      begun_follows (Push job) access.Push _ (refl, refl) (λ rest.
-      by_test (Follows (Push job)) (eqb o.head o.size) _ _
-      (λ full.
-      let full_too : eqb (length E) o.size ≡ true = ap (λ n. eqb n o.size) as_many ∙ full in
-      refuses_so (Push job) access.Push Full (places (pushes job) (Refused Full)) (refl, refl)
-      (ap (λ t. Some (cond t (refuses b Full) (answers b Pushed (E ++ (new_cell job ∷ []))))) full_too))
+      begun_ways s (Follows (Push job)) access.Push _ (λ rest.
+      cond_both (eqb o.head o.size) _ _ (Follows (Push job))
+      (λ full. refuses_so (Push job) access.Push Full (places (pushes job) (Refused Full)) (refl, refl) (rw (as_many, full)))
       (λ apart.
-      let room : head < length cells = let lower = below _ _ range.head_size (eqb-false _ _ apart) in omega (arith, safe.cells) in
-      let open_too : eqb (length E) o.size ≡ false = ap (λ n. eqb n o.size) as_many ∙ apart in
+      let room : head < length cells = omega (arith, range.head_size, eqb-false _ _ apart, safe.cells) in
       record {
         event = places (pushes job) Pushed;
-        allowed = (rest_stage o.phase rest, by_test (λ p. stage p ≡ placed Pushed) o.own_flag _ _ (λ _. refl) (λ _. refl), refl);
-        happens =
-            ap (λ t. Some (cond t (refuses b Full) (answers b Pushed (E ++ (new_cell job ∷ []))))) open_too
-            ∙ ap (λ xs. Some (answers b Pushed xs)) (sym (take_newest head cells (new_cell job) room));
+        allowed = (rest_stage o.phase rest, grind arith, refl);
+        happens = rw (as_many, apart, take_newest head cells (new_cell job) room);
         fitting = fit_push R head s.helpers cells fit (new_cell job) refl refl room;
-        job = by_test (JobFits (head + 1) (changed cells head (λ _. new_cell job))) o.own_flag _ _ (λ _. tt) (λ _. tt);
-      }))
+        job = grind arith;
+      })) (refuses_so (Push job) access.Push Busy nothing (refl, refl) refl)
 
   popped_follows : idle o.phase ≡ true → (x : Option (Cell J O)) → top s ≡ x → Follows Pop (popped s x)
   popped_follows rest None is =
       refuses_so Pop access.Pop Empty (places pops (Refused Empty)) (refl, refl) (ap (λ x. Some (plain_pop b x)) (newest_is None is))
   popped_follows rest (Some c) is =
       let resting_now = rest_stage o.phase rest in
-      let numbers = rest_numbers o.own_flag R o.own_split head o.phase rest safe.numbers in
-      by_test (Follows Pop) o.own_flag _ _
+      cond_both o.own_flag _ _ (Follows Pop)
       (λ shut.
-      let all : R ≡ head = subst (λ f. IdleNumbers f R o.own_split head) shut numbers in
+      let all : R ≡ head = rw (idle_is o.phase rest, shut) at safe.numbers in
       record {
         event = places pops Stolen;
         allowed = (resting_now, resting_now, refl);
@@ -221,8 +171,8 @@ module _ {J O : Type 0} (s : State J O) (R : ℕ) (sound : Sound s.owner) (safe 
         job = cells_fit.job;
       })
       (λ open_flag.
-      let low : R ≤ o.own_split = subst (λ f. IdleNumbers f R o.own_split head) open_flag numbers in
-      by_test (Follows Pop) (ltb o.own_split o.head) _ _
+      let low : R ≤ o.own_split = rw (idle_is o.phase rest, open_flag) at safe.numbers in
+      cond_both (ltb o.own_split o.head) _ _ (Follows Pop)
       (λ private.
       let less : R < head = omega (arith, ltb-true _ _ private) in
       record {
@@ -242,19 +192,14 @@ module _ {J O : Type 0} (s : State J O) (R : ℕ) (sound : Sound s.owner) (safe 
 
   retired_with_follows : idle o.phase ≡ true → (c : Cell J O) → top s ≡ Some c → ltb o.told o.head ≡ false → (x : Option O) → c.outcome ≡ x → Follows Retire (retired_with s x)
   retired_with_follows rest c is told None finished =
-      let late : ltb o.told (length E) ≡ false = ap (ltb o.told) as_many ∙ told in
-      refuses_so Retire access.Retire Unfinished (places retires (Refused Unfinished)) (refl, refl)
-      (ap (λ x. Some (plain_retire b x)) (newest_is (Some c) is) ∙ rw (late, finished))
+      refuses_so Retire access.Retire Unfinished (places retires (Refused Unfinished)) (refl, refl) (rw (newest_is (Some c) is, as_many, told, finished))
   retired_with_follows rest c is told (Some outcome) finished =
-      let late : ltb o.told (length E) ≡ false = ap (ltb o.told) as_many ∙ told in
       let all : R ≡ head = omega (arith, ltb-false _ _ told, safe.told, fit.within) in
       let resting_now = rest_stage o.phase rest in
-      let first : does b retires ≡ Some (plain_retire b (Some c)) = ap (λ x. Some (plain_retire b x)) (newest_is (Some c) is) in
-      let then_so : Some (plain_retire b (Some c)) ≡ Some (record { answer = Retired outcome; board = record { size = o.size; entries = take (length E - 1) E; told = min o.told (length E - 1) } }) = rw (late, finished) in
       let happens : does b retires ≡ Some (record { answer = Retired outcome; board = record { size = o.size; entries = take (head - 1) cells; told = min o.told (head - 1) } }) =
-      first ∙ (then_so ∙ (λ i. Some (record { answer = Retired outcome; board = record { size = o.size; entries = older_are i; told = min o.told (as_many i - 1) } }))) in
+      rw (newest_is (Some c) is, as_many, told, finished, older_are, as_many) in
       let GivesUp = fit_retire R head s.helpers cells fit c outcome all is finished in
-      by_test (Follows Retire) o.own_flag _ _
+      cond_both o.own_flag _ _ (Follows Retire)
       (λ _. record {
         event = places retires (Retired outcome);
         allowed = (resting_now, resting_now, refl);
@@ -274,11 +219,9 @@ module _ {J O : Type 0} (s : State J O) (R : ℕ) (sound : Sound s.owner) (safe 
   retired_follows rest None is =
       refuses_so Retire access.Retire Empty (places retires (Refused Empty)) (refl, refl) (ap (λ x. Some (plain_retire b x)) (newest_is None is))
   retired_follows rest (Some c) is =
-      by_test (Follows Retire) (ltb o.told o.head) _ _
+      cond_both (ltb o.told o.head) _ _ (Follows Retire)
       (λ early.
-      let early_too : ltb o.told (length E) ≡ true = ap (ltb o.told) as_many ∙ early in
-      refuses_so Retire access.Retire NotTold (places retires (Refused NotTold)) (refl, refl)
-      (ap (λ x. Some (plain_retire b x)) (newest_is (Some c) is) ∙ rw early_too))
+      refuses_so Retire access.Retire NotTold (places retires (Refused NotTold)) (refl, refl) (rw (newest_is (Some c) is, as_many, early)))
       (λ told. retired_with_follows rest c is told c.outcome refl)
 
   -- a step of the owner that leaves the plain board alone
@@ -324,37 +267,37 @@ module _ {J O : Type 0} (s : State J O) (R : ℕ) (sound : Sound s.owner) (safe 
 
   step_follows : (p : Phase J O) → o.phase ≡ p → Fits p → Owes p → Stands p → JobFits head cells p → Follows OwnerStep (owner_step_at s p)
   step_follows Idle is fits owes stands job = refuses_so OwnerStep access.Step NothingBegun nothing (refl, refl) refl
-  step_follows (Opening open_at.WritePair) is fits owes stands job = steps_on _ _ Going _ _ (Opening open_at.WriteFlag) (goes_on _ _ is (not_resting Pushed) refl) tt
-  step_follows (Opening open_at.WriteFlag) is fits owes stands job = steps_on _ _ Going _ _ (Opening open_at.ReadRequest) (goes_on _ _ is (not_resting Pushed) refl) tt
+  step_follows (Opening open_at.WritePair) is fits owes stands job = steps_on _ _ Going _ _ (Opening open_at.WriteFlag) (goes_on _ _ is (λ rest. cc) refl) tt
+  step_follows (Opening open_at.WriteFlag) is fits owes stands job = steps_on _ _ Going _ _ (Opening open_at.ReadRequest) (goes_on _ _ is (λ rest. cc) refl) tt
   step_follows (Opening open_at.ReadRequest) is fits owes stands job =
-      by_test (Follows OwnerStep) _ _ _
-      (λ _. steps_on memory.reads access.ReadRequest Going o.own_split o.own_flag (Sharing share_at.WriteRequest ending.Pushed) (goes_on _ _ is (not_resting Pushed) refl) tt)
+      cond_both _ _ _ (Follows OwnerStep)
+      (λ _. steps_on memory.reads access.ReadRequest Going o.own_split o.own_flag (Sharing share_at.WriteRequest ending.Pushed) (goes_on _ _ is (λ rest. cc) refl) tt)
       (λ _. steps_on memory.reads access.ReadRequest Pushed o.own_split o.own_flag Idle (inl (ap stage is, refl, refl)) tt)
   step_follows (Sharing share_at.ReadRequest end) is fits owes stands job =
-      by_test (Follows OwnerStep) _ _ _
-      (λ _. steps_on memory.reads access.ReadRequest Going o.own_split o.own_flag (Sharing share_at.WriteSplit end) (goes_on _ _ is (not_resting _) refl) tt)
+      cond_both _ _ _ (Follows OwnerStep)
+      (λ _. steps_on memory.reads access.ReadRequest Going o.own_split o.own_flag (Sharing share_at.WriteSplit end) (goes_on _ _ is (λ rest. cc) refl) tt)
       (λ _. steps_on memory.reads access.ReadRequest (ending_answer end) o.own_split o.own_flag Idle (ends_so end (ap stage is)) tt)
-  step_follows (Sharing share_at.WriteSplit end) is fits owes stands job = steps_on _ _ Going _ _ (Sharing share_at.WriteRequest end) (goes_on _ _ is (not_resting _) refl) tt
+  step_follows (Sharing share_at.WriteSplit end) is fits owes stands job = steps_on _ _ Going _ _ (Sharing share_at.WriteRequest end) (goes_on _ _ is (λ rest. cc) refl) tt
   step_follows (Sharing share_at.WriteRequest end) is fits owes stands job = steps_on _ _ (ending_answer end) _ _ Idle (ends_so end (ap stage is)) tt
   step_follows (Shrinking shrink_at.ReadPair job) is fits owes stands top_is =
-      by_test (Follows OwnerStep) _ _ _
+      cond_both _ _ _ (Follows OwnerStep)
       (λ _.
-      by_test (λ p. Follows OwnerStep (owns s memory.reads access.ReadPair Going (with_phase o p))) (eqb tail (memory.settled s.memory).split) Closing (Shrinking (shrink_at.WriteSplit tail (memory.settled s.memory).split) job)
-      (λ _. steps_on memory.reads access.ReadPair Going o.own_split o.own_flag Closing (goes_on _ _ is unplaced_not_resting refl) tt)
-      (λ _. steps_on memory.reads access.ReadPair Going o.own_split o.own_flag _ (goes_on _ _ is unplaced_not_resting refl) top_is))
+      cond_both (eqb tail (memory.settled s.memory).split) Closing (Shrinking (shrink_at.WriteSplit tail (memory.settled s.memory).split) job) (λ p. Follows OwnerStep (owns s memory.reads access.ReadPair Going (with_phase o p)))
+      (λ _. steps_on memory.reads access.ReadPair Going o.own_split o.own_flag Closing (goes_on _ _ is (λ rest. cc) refl) tt)
+      (λ _. steps_on memory.reads access.ReadPair Going o.own_split o.own_flag _ (goes_on _ _ is (λ rest. cc) refl) top_is))
       (λ _. refuses_so OwnerStep access.Step Misread nothing (refl, refl) refl)
-  step_follows (Shrinking (shrink_at.WriteSplit t s') job) is fits owes stands top_is = steps_on _ _ Going _ _ (Shrinking (shrink_at.Fence t s') job) (goes_on _ _ is unplaced_not_resting refl) top_is
-  step_follows (Shrinking (shrink_at.Fence t s') job) is fits owes stands top_is = steps_on _ _ Going _ _ (Shrinking (shrink_at.ReadTail t s') job) (goes_on _ _ is unplaced_not_resting refl) top_is
+  step_follows (Shrinking (shrink_at.WriteSplit t s') job) is fits owes stands top_is = steps_on _ _ Going _ _ (Shrinking (shrink_at.Fence t s') job) (goes_on _ _ is (λ rest. cc) refl) top_is
+  step_follows (Shrinking (shrink_at.Fence t s') job) is fits owes stands top_is = steps_on _ _ Going _ _ (Shrinking (shrink_at.ReadTail t s') job) (goes_on _ _ is (λ rest. cc) refl) top_is
   step_follows (Shrinking (shrink_at.ReadTail t s') job) is fits owes stands top_is =
       let (open_flag, low_told, ordered, whole, half) = fits in
       let tail_is : tail ≡ R = settled_tail o.size R o.own_split s.memory owes.0 in
-      by_test (Follows OwnerStep) _ _ _
+      cond_both _ _ _ (Follows OwnerStep)
       (λ _.
-      by_test (λ p. Follows OwnerStep (owns s memory.reads access.ReadTail Going p)) (eqb tail s') _ _
-      (λ _. steps_on memory.reads access.ReadTail Going o.own_split o.own_flag Closing (goes_on _ _ is unplaced_not_resting refl) tt)
+      cond_both (eqb tail s') _ _ (λ p. Follows OwnerStep (owns s memory.reads access.ReadTail Going p))
+      (λ _. steps_on memory.reads access.ReadTail Going o.own_split o.own_flag Closing (goes_on _ _ is (λ rest. cc) refl) tt)
       (λ _.
-      by_test (λ p. Follows OwnerStep (owns s memory.reads access.ReadTail Going p)) (ltb ((t + s') / 2) tail) _ _
-      (λ _. steps_on memory.reads access.ReadTail Going o.own_split o.own_flag (Shrinking (shrink_at.WriteAgain tail s') job) (goes_on _ _ is unplaced_not_resting refl) top_is)
+      cond_both (ltb ((t + s') / 2) tail) _ _ (λ p. Follows OwnerStep (owns s memory.reads access.ReadTail Going p))
+      (λ _. steps_on memory.reads access.ReadTail Going o.own_split o.own_flag (Shrinking (shrink_at.WriteAgain tail s') job) (goes_on _ _ is (λ rest. cc) refl) top_is)
       (λ low. works_on memory.reads access.ReadTail o.own_split job (ap stage is) top_is (omega (arith, ltb-false _ _ low)))))
       (λ _. refuses_so OwnerStep access.Step Misread nothing (refl, refl) refl)
   step_follows (Shrinking (shrink_at.WriteAgain u s') job) is fits owes stands top_is =
@@ -381,12 +324,12 @@ module _ {J O : Type 0} (s : State J O) (R : ℕ) (sound : Sound s.owner) (safe 
     looks touches name answer a = record { touches = touches; access = name; answer = answer; owner = s.owner; helpers = aimed a; cells = s.cells }
 
     -- a step of a helper that leaves the cells alone
-    looks_on : (touches : memory.Access) (name : Access) (answer : Answer J O) (a : Aim) → AttemptAllowed k answer nothing → next_stolen (HelperStep k) answer R ≡ R → HoldsNothing h.aim → holding a ≡ false → Follows (HelperStep k) (looks touches name answer a)
+    looks_on : (touches : memory.Access) (name : Access) (answer : Answer J O) (a : Aim) → AttemptAllowed k answer nothing → next_stolen (HelperStep k) answer R ≡ R → HoldsNothing h.aim → HoldsNothing a → Follows (HelperStep k) (looks touches name answer a)
     looks_on touches name answer a allowed kept before after = record {
       event = nothing;
       allowed = (refl, allowed);
       happens = refl;
-      fitting = subst (λ n. Fitting n s.owner.head (aimed a) s.cells) (sym kept) (fit_aims R head s.helpers cells fit k h there a before (holds_none a a refl after));
+      fitting = rw kept (fit_aims R head s.helpers cells fit k h there a before after);
       job = cells_fit.job;
     }
 
@@ -396,65 +339,56 @@ module _ {J O : Type 0} (s : State J O) (R : ℕ) (sound : Sound s.owner) (safe 
         let free = fit.free R (omega arith) less in
         let in_entries : at E R ≡ at cells R = take_at head cells R less in
         let oldest : oldest_untaken E ≡ Some R =
-        oldest_is R E (λ i low. let t = fit.taken i low in record { cell = t.cell; there = take_at head cells i (omega arith) ∙ t.there; taken = t.taken })
-        (record { cell = free.cell; there = in_entries ∙ free.there; untaken = free.untaken; unfinished = free.unfinished }) in
+        oldest_is R E (λ i low. taken_stays (take_at head cells i (omega arith)) (fit.taken i low)) (free_stays in_entries free) in
         let found : at E R ≡ Some c = in_entries ∙ here in
-        let turn : does b (takes k) ≡ Some (answers b (Taken c.job) (changed E R (marked k))) = rw (none, oldest, found) in
-        turn ∙ ap (λ xs. Some (answers b (Taken c.job) xs)) (sym (take_changed head cells R (marked k)))
+        rw (none, oldest, found, take_changed head cells R (marked k))
 
     swap_follows : (t s' : ℕ) (x : Option (Cell J O)) → h.aim ≡ Swap (t, s') → at cells t ≡ x → Follows (HelperStep k) (swap_at s k t s' x)
     swap_follows t s' None is here = refuses_so (HelperStep k) access.Step Misread nothing (refl, refl) refl
     swap_follows t s' (Some c) is here =
-        let before : HoldsNothing h.aim = holds_none h.aim (Swap (t, s')) is refl in
-        by_test (Follows (HelperStep k)) (memory.swap_passes t s' s.memory.words) _ _
+        let before : HoldsNothing h.aim = λ p holds. cc in
+        cond_both (memory.swap_passes t s' s.memory.words) _ _ (Follows (HelperStep k))
         (λ passes.
         let (place, less) = swap_takes o.size R head t s' s.memory (need o.own_flag o.own_split head o.phase) safe.memory (need_bound _ o.told _ head o.phase sound.fits range.split_head) passes in
         record {
           event = places (takes k) (Taken c.job);
           allowed = (refl, refl);
-          happens = subst (λ n. does b (takes k) ≡ Some (record { answer = Taken c.job; board = record { size = o.size; entries = take head (changed cells n (marked k)); told = o.told } })) (sym place) (takes_so c less (subst (λ n. at cells n ≡ Some c) place here) before);
-          fitting = subst (λ n. Fitting (R + 1) head (aimed (Hold n)) (changed cells n (marked k))) (sym place) (fit_takes R head s.helpers cells fit k h there less before);
+          happens = rw place (takes_so c less (rw place at here) before);
+          fitting = rw place (fit_takes R head s.helpers cells fit k h there less before);
           job = job_stays head cells t (marked k) (λ c. refl) o.phase cells_fit.job;
         })
-        (λ _. looks_on (memory.tries t s') access.Swap Changed ReadFlag refl refl before refl)
+        (λ _. looks_on (memory.tries t s') access.Swap Changed ReadFlag refl refl before (λ p held. cc))
 
     aimed_follows : (a : Aim) → h.aim ≡ a → Follows (HelperStep k) (step_aimed s k a)
     aimed_follows ReadFlag is =
-        let before = holds_none h.aim ReadFlag is refl in
-        by_test (Follows (HelperStep k)) _ _ _ (λ _. looks_on memory.reads access.ReadFlag AllGone ReadFlag refl refl before refl) (λ _. looks_on memory.reads access.ReadFlag Going ReadPair refl refl before refl)
+        let before : HoldsNothing h.aim = λ p holds. cc in
+        cond_both _ _ _ (Follows (HelperStep k)) (λ _. looks_on memory.reads access.ReadFlag AllGone ReadFlag refl refl before (λ p held. cc)) (λ _. looks_on memory.reads access.ReadFlag Going ReadPair refl refl before (λ p held. cc))
     aimed_follows ReadPair is =
-        let before = holds_none h.aim ReadPair is refl in
-        by_test (Follows (HelperStep k)) (ltb o.size s.memory.words.split) (refused s access.Step Misread) _ (λ _. refuses_so (HelperStep k) access.Step Misread nothing (refl, refl) refl)
+        let before : HoldsNothing h.aim = λ p holds. cc in
+        cond_both (ltb o.size s.memory.words.split) (refused s access.Step Misread) _ (Follows (HelperStep k)) (λ _. refuses_so (HelperStep k) access.Step Misread nothing (refl, refl) refl)
         (λ _.
-        by_test (Follows (HelperStep k)) (ltb s.memory.words.tail s.memory.words.split) _ _
-        (λ _. looks_on memory.reads access.ReadPair Going (Swap (s.memory.words.tail, s.memory.words.split)) refl refl before refl)
-        (λ _. looks_on memory.reads access.ReadPair Going ReadRequest refl refl before refl))
+        cond_both (ltb s.memory.words.tail s.memory.words.split) _ _ (Follows (HelperStep k))
+        (λ _. looks_on memory.reads access.ReadPair Going (Swap (s.memory.words.tail, s.memory.words.split)) refl refl before (λ p held. cc))
+        (λ _. looks_on memory.reads access.ReadPair Going ReadRequest refl refl before (λ p held. cc)))
     aimed_follows (Swap pair) is = swap_follows pair.0 pair.1 (at cells pair.0) is refl
     aimed_follows ReadRequest is =
-        let before = holds_none h.aim ReadRequest is refl in
-        by_test (Follows (HelperStep k)) _ _ _ (λ _. looks_on memory.reads access.ReadRequest NoShare ReadFlag refl refl before refl) (λ _. looks_on memory.reads access.ReadRequest Going WriteRequest refl refl before refl)
-    aimed_follows WriteRequest is = looks_on memory.asks access.WriteRequest NoShare ReadFlag refl refl (holds_none h.aim WriteRequest is refl) refl
+        let before : HoldsNothing h.aim = λ p holds. cc in
+        cond_both _ _ _ (Follows (HelperStep k)) (λ _. looks_on memory.reads access.ReadRequest NoShare ReadFlag refl refl before (λ p held. cc)) (λ _. looks_on memory.reads access.ReadRequest Going WriteRequest refl refl before (λ p held. cc))
+    aimed_follows WriteRequest is = looks_on memory.asks access.WriteRequest NoShare ReadFlag refl refl (λ p holds. cc) (λ p holds. cc)
     aimed_follows (Hold p) is =
         refuses_so (HelperStep k) access.Step Holding (places (takes k) (Refused Holding)) (refl, refl)
         (ap (plain_take b k) (plain_holds R head s.helpers cells fit k h there p is))
 
-    holds_none_follows : (outcome : O) → HoldsNothing h.aim → Follows (Finish k outcome) (refused s access.Finish HoldsNone)
-    holds_none_follows outcome before =
+    none_follows : (outcome : O) → HoldsNothing h.aim → Follows (Finish k outcome) (refused s access.Finish HoldsNone)
+    none_follows outcome before =
         refuses_so (Finish k outcome) access.Finish HoldsNone (places (finishes k outcome) (Refused HoldsNone)) (refl, refl)
         (ap (λ x. Some (plain_finish b outcome x)) (plain_holds_none R head s.helpers cells fit k h there before))
 
-    finish_aimed_follows : (outcome : O) (a : Aim) → h.aim ≡ a → Follows (Finish k outcome) (finish_aimed s k outcome a)
-    finish_aimed_follows outcome ReadFlag is = holds_none_follows outcome (holds_none h.aim ReadFlag is refl)
-    finish_aimed_follows outcome ReadPair is = holds_none_follows outcome (holds_none h.aim ReadPair is refl)
-    finish_aimed_follows outcome (Swap pair) is = holds_none_follows outcome (holds_none h.aim (Swap pair) is refl)
-    finish_aimed_follows outcome ReadRequest is = holds_none_follows outcome (holds_none h.aim ReadRequest is refl)
-    finish_aimed_follows outcome WriteRequest is = holds_none_follows outcome (holds_none h.aim WriteRequest is refl)
-    finish_aimed_follows outcome (Hold p) is = record {
+    finished_follows : (outcome : O) (p : ℕ) → h.aim ≡ Hold p → Follows (Finish k outcome) (finish_aimed s k outcome (Hold p))
+    finished_follows outcome p is = record {
       event = places (finishes k outcome) Finished;
       allowed = (refl, refl);
-      happens =
-          ap (λ x. Some (plain_finish b outcome x)) (plain_holds R head s.helpers cells fit k h there p is)
-          ∙ ap (λ xs. Some (answers b Finished xs)) (sym (take_changed head cells p (with_outcome outcome)));
+      happens = rw (plain_holds R head s.helpers cells fit k h there p is, take_changed head cells p (with_outcome outcome));
       fitting = fit_finish R head s.helpers cells fit k h there p outcome is;
       job = job_stays head cells p (with_outcome outcome) (λ c. refl) o.phase cells_fit.job;
     }
@@ -464,19 +398,20 @@ module _ {J O : Type 0} (s : State J O) (R : ℕ) (sound : Sound s.owner) (safe 
   helper_follows k (Some h) is = aimed_follows k h is h.aim refl
 
   finish_follows : (k : ℕ) (outcome : O) (x : Option Helper) → at_number s.helpers k ≡ x → Follows (Finish k outcome) (finish_of s k outcome x)
-  finish_follows k outcome None is = refuses_so (Finish k outcome) access.Finish UnknownHelper nothing (refl, refl) refl
-  finish_follows k outcome (Some h) is = finish_aimed_follows k h is outcome h.aim refl
+  finish_follows k outcome x is =
+      finish_ways s (Follows (Finish k outcome)) k outcome x (refuses_so (Finish k outcome) access.Finish UnknownHelper nothing (refl, refl) refl)
+      (λ h some. none_follows k h (is ∙ some) outcome)
+      (λ h p some. finished_follows k h (is ∙ some) outcome p)
 
   handed_follows : (handed : ℕ) (call : Call J O) (name : Access) (e : Effect J O) → Allowed call (Refused WrongCells) (stage o.phase) (stage o.phase) nothing → Follows call e → Follows call (with_cells s handed name e)
-  handed_follows handed call name e allowed follows =
-      by_test (Follows call) (eqb handed o.size) e (refused s name WrongCells) (λ _. follows) (λ _. refuses_so call name WrongCells nothing allowed refl)
+  handed_follows handed call name e allowed follows = handed_ways s (Follows call) handed name e follows (refuses_so call name WrongCells nothing allowed refl)
 
   call_follows : (handed : ℕ) (call : Call J O) → Follows call (effect_of s handed call)
   call_follows handed (Push job) = handed_follows handed (Push job) access.Push (push s job) (refl, refl) (push_follows job)
   call_follows handed Pop =
-      handed_follows handed Pop access.Pop (pop s) (refl, refl) (begun_follows Pop access.Pop _ (refl, refl) (λ rest. popped_follows rest (top s) refl))
+      handed_follows handed Pop access.Pop (pop s) (refl, refl) (begun_ways s (Follows Pop) access.Pop _ (λ rest. popped_follows rest (top s) refl) (refuses_so Pop access.Pop Busy nothing (refl, refl) refl))
   call_follows handed Retire =
-      handed_follows handed Retire access.Retire (retire s) (refl, refl) (begun_follows Retire access.Retire _ (refl, refl) (λ rest. retired_follows rest (top s) refl))
+      handed_follows handed Retire access.Retire (retire s) (refl, refl) (begun_ways s (Follows Retire) access.Retire _ (λ rest. retired_follows rest (top s) refl) (refuses_so Retire access.Retire Busy nothing (refl, refl) refl))
   call_follows handed OwnerStep =
       handed_follows handed OwnerStep access.Step (owner_step s) (refl, refl) (step_follows o.phase refl sound.fits safe.memory safe.numbers cells_fit.job)
   call_follows handed (HelperStep k) =

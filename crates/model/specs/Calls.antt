@@ -1,11 +1,11 @@
 -- One call, whichever it is, and the making of a board. Assumes nothing.
-use Rattle.std.specs.Prelude.{◌≡◌, ℕ, true, false, cond, ◌||◌, List, [], replicate, Ok, Err, Result, ◌==◌, nat_lt}
+use Rattle.std.specs.Prelude.{ℕ, true, false, cond, ◌||◌, List, [], replicate, Ok, Err, Result, ◌==◌, nat_lt}
 use Rattle.calls.specs.declared.call.Call.{Call}
 use Rattle.calls.specs.declared.call.Call.TheVariants.{Push, Pop, Retire, OwnerStep, HelperStep, Finish, Land}
 use Rattle.memory.specs.Meaning as memory
 use Rattle.model.specs.Helping.{helper_step, finish}
 use Rattle.model.specs.Owning.{push, pop, retire, owner_step}
-use Rattle.model.specs.State.{State, Effect, refused, owns, reply_of, state_after}
+use Rattle.model.specs.State.{State, Effect, Does, refused, owns}
 use Rattle.model.specs.declared.cell.Cell.{Cell}
 use Rattle.model.specs.declared.helper.Aim.TheVariants.{ReadFlag}
 use Rattle.model.specs.declared.owner.Phase.TheVariants.{Idle}
@@ -38,11 +38,9 @@ pub record Entry (J O : Type 0) : Type 0 where
   pub reply : Reply J O
 
 module _ {J O : Type 0} where
-  -- the call leads from s to s': it lands what it may, and the rest is defined
-  pub record Makes (s : State J O) (e : Entry J O) (s' : State J O) : Type 0 where
-    pub lands : memory.MayLand (effect_of s e.handed e.call).touches e.reply.landed s.memory
-    pub replies : e.reply ≡ reply_of (effect_of s e.handed e.call) e.reply.landed
-    pub moves : s' ≡ state_after s (effect_of s e.handed e.call) e.reply.landed
+  -- the call leads from s to s' with its reply
+  abbrev pub Makes : State J O → Entry J O → State J O → Type 0
+  Makes s e s' = Does (effect_of s e.handed e.call) s e.reply s'
 
   -- a board just made, whatever its cells held
   abbrev pub new_board : ℕ → ℕ → List (Cell J O) → State J O

@@ -123,7 +123,7 @@ module _ {J O : Type 0} where
   written_count h = counted (λ e. writes_share e.reply.access) h
 
 module _ {J O : Type 0} where
-  -- the same of one history: with n helpers, CHANGED answers are at most (n - 1) for each TAKEN answer and n for each of the owner's writes to pair or split
+  -- with n helpers, CHANGED answers are at most (n - 1) for each TAKEN answer and n for each of the owner's writes to pair or split
   abbrev pub ChangedBounded : State J O → List (Entry J O) → Type 0
   ChangedBounded start h =
       changed_count h ≤ (length start.helpers - 1) * taken_count h + length start.helpers * written_count h
@@ -137,20 +137,20 @@ module _ {J O : Type 0} where
   abbrev pub NoneMisread : List (Entry J O) → Type 0
   NoneMisread h = AllByRecursion (λ e. refusal_number e.reply.answer ≢ 20) h
 
--- with n helpers, CHANGED answers are at most (n - 1) for each TAKEN answer and n for each of the owner's writes to pair or split
+-- so it is on every board that is made
 abbrev pub ChangedIsBounded : (J O : Type 0) → Type 0
 ChangedIsBounded J O =
-    (start s : State J O) (h : List (Entry J O)) → New start → Runs start h s → changed_count h ≤ (length start.helpers - 1) * taken_count h + length start.helpers * written_count h
+    (start s : State J O) (h : List (Entry J O)) → New start → Runs start h s → ChangedBounded start h
 
--- while the owner is idle, jobs accepted are jobs worked, jobs taken and jobs that nobody has taken
+-- while the owner is idle, nothing is lost
 abbrev pub JobsAddUp : (J O : Type 0) → Type 0
 JobsAddUp J O =
-    (start s : State J O) (h : List (Entry J O)) → New start → Runs start h s → idle s.owner.phase ≡ true → pushed_count h ≡ work_count h + taken_count h + untaken (take s.owner.head s.cells)
+    (start s : State J O) (h : List (Entry J O)) → New start → Runs start h s → JobsAdded h s
 
 -- on a board just made no call is refused with 20
 abbrev pub NeverMisread : (J O : Type 0) → Type 0
 NeverMisread J O =
-    (start s : State J O) (h : List (Entry J O)) → New start → Runs start h s → AllByRecursion (λ e. refusal_number e.reply.answer ≢ 20) h
+    (start s : State J O) (h : List (Entry J O)) → New start → Runs start h s → NoneMisread h
 
 -- told ≤ head ≤ size always, and told ≤ own split ≤ head while own flag is 0
 abbrev pub NumbersInRange : (J O : Type 0) → Type 0

@@ -193,9 +193,8 @@ abbrev pub OneOrderAt : {J O S : Type 0} (size : ℕ) (Runs : S → List (Entry 
 OneOrderAt {J} {O} {S} size Runs h s =
     (order : List (Place J O)) × (Orders size h order) × ((h' : List (Entry J O)) (s' : S) → Runs s h' s' → (more : List (Place J O)) × (Orders size (h' ++ h) (more ++ order)))
 
--- one order, kept at a hand-over: the order of a history is fixed, and every continuation has an order that begins with it.
+-- one order of every history, kept at a hand-over
 -- It is said of any board, by its states, how large each is, which are new, and which calls lead from one to another.
 abbrev pub OneOrderOf : {J O S : Type 0} (size : S → ℕ) (New : S → Type 0) (Runs : S → List (Entry J O) → S → Type 0) → Type 0
 OneOrderOf {J} {O} {S} size New Runs =
-    (start s : S) (h : List (Entry J O)) → New start → Runs start h s →
-    (order : List (Place J O)) × (Orders (size start) h order) × ((h' : List (Entry J O)) (s' : S) → Runs s h' s' → (more : List (Place J O)) × (Orders (size start) (h' ++ h) (more ++ order)))
+    (start s : S) (h : List (Entry J O)) → New start → Runs start h s → OneOrderAt (size start) Runs h s

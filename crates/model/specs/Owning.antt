@@ -2,7 +2,7 @@
 use Rattle.std.specs.Prelude.{ℕ, ◌+◌, ◌-◌, ◌/◌, min, Bool, true, false, cond, ◌&&◌, Some, None, Option, ◌==◌, nat_le, nat_lt}
 use Rattle.memory.specs.Meaning as memory
 use Rattle.memory.specs.declared.words.Write.TheVariants as write
-use Rattle.model.specs.Places.{at_number, changed}
+use Rattle.model.specs.Places.{at_number, changed, new_cell}
 use Rattle.model.specs.State.{State, Effect, refused, owns, with_head, with_split, with_flag, with_told, with_phase}
 use Rattle.model.specs.declared.cell.Cell.{Cell}
 use Rattle.model.specs.declared.owner.Ending.{Ending}
@@ -57,7 +57,7 @@ module _ {J O : Type 0} (s : State J O) where
         answer = Going;
         owner = with_phase (with_head o (o.head + 1)) (cond o.own_flag (Opening open_at.WritePair) (Sharing share_at.ReadRequest ending.Pushed));
         helpers = s.helpers;
-        cells = changed s.cells o.head (λ _. record { job = job; taker = None; outcome = None });
+        cells = changed s.cells o.head (λ _. new_cell job);
       }))
 
   abbrev pub popped : Option (Cell J O) → Effect J O

@@ -1,5 +1,6 @@
--- What stands at a position of a list, if anything does, and a list with one position changed. Assumes nothing.
+-- What stands at a position of a list, if anything does, a list with one position changed, and what a push writes there. Assumes nothing.
 use Rattle.std.specs.Prelude.{ℕ, zero, suc, List, [], ◌∷◌, Some, None, Option}
+use Rattle.model.specs.declared.cell.Cell.{Cell}
 
 module _ {X : Type 0} where
   abbrev pub at : List X → ℕ → Option X
@@ -16,3 +17,7 @@ module _ {X : Type 0} where
   abbrev pub at_number : List X → ℕ → Option X
   at_number xs zero = None
   at_number xs (suc i) = at xs i
+
+-- a job just pushed: nobody has taken it
+abbrev pub new_cell : {J O : Type 0} → J → Cell J O
+new_cell job = record { job = job; taker = None; outcome = None }

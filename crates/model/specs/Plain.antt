@@ -1,7 +1,7 @@
 -- The plain board: what the operations of a board mean when they come one at a time. Assumes nothing.
 use Rattle.std.specs.Prelude.{ℕ, suc, ◌-◌, min, Bool, false, cond, List, [], ◌∷◌, ◌++◌, length, take, is_some, Some, None, Option, ◌==◌, nat_lt}
 use Rattle.model.specs.Helping.{marked, with_outcome}
-use Rattle.model.specs.Places.{at, at_number, changed}
+use Rattle.model.specs.Places.{at, at_number, changed, new_cell}
 use Rattle.model.specs.declared.cell.Cell.{Cell}
 use Rattle.model.specs.declared.reply.Answer.{Answer}
 use Rattle.model.specs.declared.reply.Answer.TheVariants.{Pushed, Work, Stolen, Retired, Taken, Finished, Refused}
@@ -72,7 +72,7 @@ module _ {J O : Type 0} (b : Plain J O) where
 
   abbrev pub plain_push : J → Turn J O
   plain_push job =
-      cond (length b.entries == b.size) (refuses b Full) (answers b Pushed (b.entries ++ record { job = job; taker = None; outcome = None } ∷ []))
+      cond (length b.entries == b.size) (refuses b Full) (answers b Pushed (b.entries ++ new_cell job ∷ []))
 
   abbrev pub plain_pop : Option (Cell J O) → Turn J O
   plain_pop None = refuses b Empty

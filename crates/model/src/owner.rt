@@ -45,6 +45,7 @@ pub enum Share {
     WriteRequest,
 }
 
+// The pair stands taken apart in each, as tail and split: a rule of the project, by which only a memory's read has a pair.
 #[derive(Clone, Copy)]
 pub enum Shrink {
     ReadPair,

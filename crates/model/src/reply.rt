@@ -2,7 +2,9 @@
 ghost use Rattle.std.specs.Prelude.{◌≡◌, ◌≤◌, length};
 ghost use Rattle.text.specs.Content.{Gains};
 ghost use Rattle.model.specs.Naming.{number, layer_of, access_word, answer_word};
+ghost use Rattle.model.specs.Owning.{ending_answer};
 
+use crate::owner::Ending;
 use calls::Layer;
 use text::Text;
 
@@ -81,51 +83,64 @@ pub enum Refusal {
     Misread,
 }
 
-impl Access {
-    pub fn print(self, out: &mut Text)
-        ensures gains { Gains out.old (access_word self) out.new }
-        ensures short { length (access_word self) ≤ 10 }
-    {
-        match self {
-            Access::WritePair => out.push_str("writepair"),
-            Access::WriteSplit => out.push_str("writesplit"),
-            Access::WriteFlag => out.push_str("writeflag"),
-            Access::WriteRequest => out.push_str("writereq"),
-            Access::ReadPair => out.push_str("readpair"),
-            Access::ReadTail => out.push_str("readtail"),
-            Access::ReadRequest => out.push_str("readreq"),
-            Access::ReadFlag => out.push_str("readflag"),
-            Access::Fence => out.push_str("fence"),
-            Access::Swap => out.push_str("swap"),
-            Access::Push => out.push_str("push"),
-            Access::Pop => out.push_str("pop"),
-            Access::Retire => out.push_str("retire"),
-            Access::Step => out.push_str("step"),
-            Access::Finish => out.push_str("finish"),
-            Access::Land => out.push_str("land"),
+// How a push or a pop answers once its shares are made.
+impl<J, O> From<Ending<J>> for Answer<J, O> {
+    ghost from_gives = { λ ending answer. answer ≡ ending_answer ending };
+
+    fn from(ending: Ending<J>) -> Answer<J, O> {
+        match ending {
+            Ending::Pushed => Answer::Pushed,
+            Ending::Work(job) => Answer::Work(job),
         }
     }
 }
 
+impl Access {
+    // Into a text and not by `Display`: `write!` may fail.
+    pub fn print(self, out: &mut Text)
+        ensures gains { Gains out.old (access_word self) out.new }
+        ensures short { length (access_word self) ≤ 10 }
+    {
+        out.push_str(match self {
+            Access::WritePair => "writepair",
+            Access::WriteSplit => "writesplit",
+            Access::WriteFlag => "writeflag",
+            Access::WriteRequest => "writereq",
+            Access::ReadPair => "readpair",
+            Access::ReadTail => "readtail",
+            Access::ReadRequest => "readreq",
+            Access::ReadFlag => "readflag",
+            Access::Fence => "fence",
+            Access::Swap => "swap",
+            Access::Push => "push",
+            Access::Pop => "pop",
+            Access::Retire => "retire",
+            Access::Step => "step",
+            Access::Finish => "finish",
+            Access::Land => "land",
+        });
+    }
+}
+
 impl<J, O> Answer<J, O> {
-    // The word alone: a job, an outcome or a refusal's number comes after it.
+    // The word alone: a job, an outcome or a refusal's number comes after it. Into a text, as an access.
     pub fn print_word(&self, out: &mut Text)
         ensures gains { Gains out.old (answer_word self.now) out.new }
         ensures short { length (answer_word self.now) ≤ 8 }
     {
-        match self {
-            Answer::Going => out.push_str("-"),
-            Answer::Pushed => out.push_str("PUSHED"),
-            Answer::Work(_) => out.push_str("WORK"),
-            Answer::Stolen => out.push_str("STOLEN"),
-            Answer::Retired(_) => out.push_str("RETIRED"),
-            Answer::Taken(_) => out.push_str("TAKEN"),
-            Answer::AllGone => out.push_str("ALLGONE"),
-            Answer::NoShare => out.push_str("NOSHARE"),
-            Answer::Changed => out.push_str("CHANGED"),
-            Answer::Finished => out.push_str("FINISHED"),
-            Answer::Refused(_) => out.push_str("refused"),
-        }
+        out.push_str(match self {
+            Answer::Going => "-",
+            Answer::Pushed => "PUSHED",
+            Answer::Work(_) => "WORK",
+            Answer::Stolen => "STOLEN",
+            Answer::Retired(_) => "RETIRED",
+            Answer::Taken(_) => "TAKEN",
+            Answer::AllGone => "ALLGONE",
+            Answer::NoShare => "NOSHARE",
+            Answer::Changed => "CHANGED",
+            Answer::Finished => "FINISHED",
+            Answer::Refused(_) => "refused",
+        });
     }
 }
 
@@ -150,6 +165,7 @@ impl Refusal {
         }
     }
 
+    // As each layer's fault does: `calls::Layer` says why there is no trait.
     pub fn layer(self) -> Layer
         ensures layer { result ≡ layer_of self }
     {
