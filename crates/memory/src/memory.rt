@@ -6,6 +6,7 @@ ghost use Rattle.memory.specs.Meaning.{Meaning, Access, settled, pair, swap_pass
 use crate::words::Write;
 
 // The owner sees its own writes at once; a helper sees only those that have landed.
+// No method has a body here, since a memory need not keep its words in a struct.
 pub trait Memory {
     ghost meaning: { Self → Meaning };
 

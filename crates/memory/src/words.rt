@@ -4,7 +4,7 @@ ghost use Rattle.std.specs.Prelude.{◌≡◌};
 ghost use Rattle.memory.specs.Meaning.{landed, swap_passes, swapped, asked};
 
 // Helpers steal the jobs below `split`, from `tail` on; on paper the flags are written 1 and 0.
-#[derive(Clone, Copy, Debug, PartialEq, Eq)]
+#[derive(Clone, Copy, Debug, Default, PartialEq, Eq)]
 pub struct Words {
     pub tail: u16,
     pub split: u16,
@@ -21,6 +21,18 @@ pub enum Write {
     Split(u16),
     Flag(bool),
     Request(bool),
+}
+
+// Stands in the unused places of a queue, and means nothing there. By hand, since a derive needs a variant without fields.
+impl Default for Write {
+    ghost use Rattle.memory.specs.declared.words.Write.TheVariants.{Request};
+    ghost use Rattle.std.specs.Prelude.{false};
+
+    ghost is_default = { λ write. write ≡ Request false };
+
+    fn default() -> Self {
+        Write::Request(false)
+    }
 }
 
 impl Words {
