@@ -1,4 +1,1 @@
-pub mod Clearing
-pub mod Doing
 pub mod Positions
-pub mod Stealing

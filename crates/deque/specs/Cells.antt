@@ -7,10 +7,6 @@ use Rattle.model.specs.declared.reply.Refusal.{Refusal}
 use Rattle.model.specs.declared.reply.Refusal.TheVariants.{Empty, NotTold, Unfinished}
 
 module _ {J O : Type 0} where
-  -- a job just pushed
-  abbrev pub new_cell : J → Cell J O
-  new_cell job = record { job = job; taker = None; outcome = None }
-
   abbrev pub job_at : List (Cell J O) → ℕ → Option J
   job_at cells position = option_map (λ cell. cell.job) (at cells position)
 

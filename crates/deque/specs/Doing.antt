@@ -9,6 +9,7 @@ use Rattle.model.specs.declared.helper.Helper.{Helper}
 use Rattle.model.specs.declared.helper.Aim.{Aim}
 use Rattle.model.specs.declared.reply.Access.{Access}
 use Rattle.model.specs.declared.reply.Access.TheVariants as access
+use Rattle.model.specs.declared.reply.Answer.{Answer}
 use Rattle.model.specs.declared.reply.Answer.TheVariants.{Refused}
 use Rattle.model.specs.declared.reply.Refusal.{Refusal}
 use Rattle.model.specs.declared.reply.Reply.{Reply}
@@ -37,6 +38,16 @@ module _ {J O : Type 0} where
 
   abbrev pub refusal_reply : Access → Refusal → Reply J O
   refusal_reply access refusal = record { access = access; landed = 0; answer = Refused refusal }
+
+  -- a reply, or the one that says why the call is refused
+  abbrev pub reply_or : Access → Result (Reply J O) Refusal → Reply J O
+  reply_or access (Ok reply) = reply
+  reply_or access (Err refusal) = refusal_reply access refusal
+
+  -- the reply to a call that makes no access: what it answers, or why it is refused
+  abbrev pub begun_reply : Access → Result (Answer J O) Refusal → Reply J O
+  begun_reply access (Ok answer) = record { access = access; landed = 0; answer = answer }
+  begun_reply access (Err refusal) = refusal_reply access refusal
 
   -- the same for a helper's step that finds its attempt at this aim: it leaves the attempt at another, or is refused
   abbrev pub Attempts : {M : Type 0} → (M → memory.Meaning) → (memory.Access → ℕ → memory.Meaning → Type 0) → ℕ → Aim → Deque M J O → List (Cell J O) → Result (Attempt J O) Refusal → Deque M J O → List (Cell J O) → List Helper → Type 0

@@ -1,22 +1,18 @@
 // What the calls do to the cells, for every kind of job. Positions past the cells are left alone.
 ghost use Rattle.std.specs.Prelude.{◌≡◌, ◌<◌, length, Some, None};
 ghost use Rattle.model.specs.Helping.{marked, with_outcome};
-ghost use Rattle.model.specs.Places.{at, at_number, changed};
-ghost use Rattle.deque.specs.Cells.{new_cell, job_at, retirable};
+ghost use Rattle.model.specs.Places.{at, at_number, changed, new_cell};
+ghost use Rattle.deque.specs.Cells.{job_at, retirable};
 
 use model::{Cell, Refusal};
 
-// Writes a job into the cell at head, with no taker and no outcome.
+// Writes a job into the cell at head. The index is tested by hand, since `get_mut` does not say what the slice ends as.
 pub(crate) fn push<J: Copy, O: Copy>(cells: &mut [Cell<J, O>], head: u16, job: J)
     ensures pushed { cells.new ≡ changed cells.old head (λ _. new_cell job) }
 {
     let at = head as usize;
     if at < cells.len() {
-        cells[at] = Cell {
-            job,
-            taker: None,
-            outcome: None,
-        };
+        cells[at] = Cell::new(job);
     }
 }
 
@@ -24,14 +20,8 @@ pub(crate) fn push<J: Copy, O: Copy>(cells: &mut [Cell<J, O>], head: u16, job: J
 pub(crate) fn top<J: Copy, O: Copy>(cells: &[Cell<J, O>], head: u16) -> Option<Cell<J, O>>
     ensures top { result ≡ at_number cells.now head }
 {
-    if head == 0 {
-        return None;
-    }
-    let at = head as usize - 1;
-    if at >= cells.len() {
-        return None;
-    }
-    Some(cells[at])
+    let at = (head as usize).checked_sub(1)?;
+    cells.get(at).copied()
 }
 
 // The outcome of the job below head, or why it can't be retired.
@@ -42,16 +32,11 @@ pub(crate) fn retire<J: Copy, O: Copy>(
 ) -> Result<O, Refusal>
     ensures outcome { result ≡ retirable told head (at_number cells.now head) }
 {
-    let Some(cell) = top(cells, head) else {
-        return Err(Refusal::Empty);
-    };
+    let cell = top(cells, head).ok_or(Refusal::Empty)?;
     if told < head {
         return Err(Refusal::NotTold);
     }
-    match cell.outcome {
-        Some(outcome) => Ok(outcome),
-        None => Err(Refusal::Unfinished),
-    }
+    cell.outcome.ok_or(Refusal::Unfinished)
 }
 
 // Marks a cell with its taker, and reads its job.
@@ -60,10 +45,8 @@ pub(crate) fn take<J: Copy, O: Copy>(cells: &mut [Cell<J, O>], position: u16, he
     ensures job { job_at cells.old position ≡ Some result }
     ensures marked { cells.new ≡ changed cells.old position (marked helper) }
 {
-    let at = position as usize;
-    let mut cell = cells[at];
+    let cell = &mut cells[position as usize];
     cell.taker = Some(helper);
-    cells[at] = cell;
     cell.job
 }
 
@@ -71,16 +54,8 @@ pub(crate) fn take<J: Copy, O: Copy>(cells: &mut [Cell<J, O>], position: u16, he
 pub fn finish<J: Copy, O: Copy>(cells: &mut [Cell<J, O>], position: u16, outcome: O)
     ensures finished { cells.new ≡ changed cells.old position (with_outcome outcome) }
 {
-    set_outcome(cells, position, outcome);
-}
-
-fn set_outcome<J: Copy, O: Copy>(cells: &mut [Cell<J, O>], position: u16, outcome: O)
-    ensures finished { cells.new ≡ changed cells.old position (with_outcome outcome) }
-{
     let at = position as usize;
     if at < cells.len() {
-        let mut cell = cells[at];
-        cell.outcome = Some(outcome);
-        cells[at] = cell;
+        cells[at].outcome = Some(outcome);
     }
 }

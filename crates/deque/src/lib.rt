@@ -12,4 +12,4 @@ pub use deque::{Attempt, Deque};
 
 mod replies;
 
-pub use replies::{refused, reply};
+pub use replies::{refused, replied, reply};

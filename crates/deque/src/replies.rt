@@ -1,9 +1,9 @@
 // How a reply is put together.
-ghost use Rattle.std.specs.Prelude.{◌≡◌, ◌+◌, ◌/◌};
-ghost use Rattle.model.specs.Owning.{ending_answer};
+ghost use Rattle.std.specs.Prelude.{◌≡◌};
 ghost use Rattle.model.specs.declared.reply.Answer.TheVariants.{Refused};
+ghost use Rattle.deque.specs.Doing.{begun_reply, reply_or};
 
-use model::{Access, Answer, Ending, Refusal, Reply};
+use model::{Access, Answer, Refusal, Reply};
 
 // The reply to a call that made an access and landed so many of the owner's writes.
 pub fn reply<J, O>(access: Access, landed: u8, answer: Answer<J, O>) -> Reply<J, O>
@@ -22,25 +22,16 @@ pub fn refused<J, O>(access: Access, refusal: Refusal) -> Reply<J, O>
     reply(access, 0, Answer::Refused(refusal))
 }
 
-pub(crate) fn ended<J, O>(ending: Ending<J>) -> Answer<J, O>
-    ensures answer { result ≡ ending_answer ending }
+// A reply, or the one that says why the call is refused.
+pub fn replied<J, O>(access: Access, outcome: Result<Reply<J, O>, Refusal>) -> Reply<J, O>
+    ensures reply { result ≡ reply_or access outcome }
 {
-    match ending {
-        Ending::Pushed => Answer::Pushed,
-        Ending::Work(job) => Answer::Work(job),
-    }
+    outcome.unwrap_or_else(|refusal| refused(access, refusal))
 }
 
-// The middle of two numbers, rounded down.
-pub(crate) fn middle(low: u16, high: u16) -> u16
-    ensures middle { result ≡ (low + high) / 2 }
+// The reply to a call that made no access and either answers or is refused.
+pub(crate) fn begun<J, O>(access: Access, answered: Result<Answer<J, O>, Refusal>) -> Reply<J, O>
+    ensures reply { result ≡ begun_reply access answered }
 {
-    ((low as u32 + high as u32) / 2) as u16
-}
-
-// The middle of two numbers, rounded up.
-pub(crate) fn middle_up(low: u16, high: u16) -> u16
-    ensures middle { result ≡ (low + high + 1) / 2 }
-{
-    ((low as u32 + high as u32 + 1) / 2) as u16
+    replied(access, answered.map(|answer| reply(access, 0, answer)))
 }

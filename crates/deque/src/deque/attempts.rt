@@ -13,6 +13,8 @@ use memory::Memory;
 use model::{Access, Aim, Answer, Cell, Refusal};
 
 impl<M: Memory, J: Copy, O: Copy> Deque<M, J, O> {
+    // A match on the aim, which is data as the owner's phase is. That it leaves the owner alone is a clause here and below: it
+    // is said of a step, and no type can say it.
     pub fn attempt(
         &mut self,
         helper: u8,
@@ -23,20 +25,16 @@ impl<M: Memory, J: Copy, O: Copy> Deque<M, J, O> {
         ensures owner { self.new.owner ≡ self.old.owner }
     {
         match aim {
-            Aim::ReadFlag => {
-                if self.memory.helper_flag() {
-                    return Ok(ends(Access::ReadFlag, Answer::AllGone));
-                }
-                Ok(goes_on(Access::ReadFlag, Aim::ReadPair))
+            Aim::ReadFlag if self.memory.helper_flag() => {
+                Ok(ends(Access::ReadFlag, Answer::AllGone))
             }
+            Aim::ReadFlag => Ok(goes_on(Access::ReadFlag, Aim::ReadPair)),
             Aim::ReadPair => self.look(),
             Aim::Swap(pair) => self.steal(helper, pair, cells),
-            Aim::ReadRequest => {
-                if self.memory.helper_request() {
-                    return Ok(ends(Access::ReadRequest, Answer::NoShare));
-                }
-                Ok(goes_on(Access::ReadRequest, Aim::WriteRequest))
+            Aim::ReadRequest if self.memory.helper_request() => {
+                Ok(ends(Access::ReadRequest, Answer::NoShare))
             }
+            Aim::ReadRequest => Ok(goes_on(Access::ReadRequest, Aim::WriteRequest)),
             Aim::WriteRequest => {
                 self.memory.ask();
                 Ok(ends(Access::WriteRequest, Answer::NoShare))
@@ -54,10 +52,12 @@ impl<M: Memory, J: Copy, O: Copy> Deque<M, J, O> {
         if split > self.owner.size {
             return Err(Refusal::Misread);
         }
-        if tail < split {
-            return Ok(goes_on(Access::ReadPair, Aim::Swap((tail, split))));
-        }
-        Ok(goes_on(Access::ReadPair, Aim::ReadRequest))
+        let aim = if tail < split {
+            Aim::Swap((tail, split))
+        } else {
+            Aim::ReadRequest
+        };
+        Ok(goes_on(Access::ReadPair, aim))
     }
 
     // The job is the helper's only once the swap has passed, so it is read then and not before.

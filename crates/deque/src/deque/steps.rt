@@ -1,16 +1,18 @@
-// The owner's steps: each makes the next access of the operation that was begun.
-ghost use Rattle.std.specs.Prelude.{◌≡◌};
+// The owner's steps: each makes the next access of the operation that was begun. A step answers a reply, of which a refusal is
+// one kind, so a single test returns it without a `Result`.
+ghost use Rattle.std.specs.Prelude.{◌≡◌, ◌+◌, ◌/◌};
 ghost use Rattle.model.specs.Owning.{owner_step, owner_step_at, working};
 ghost use Rattle.model.specs.declared.owner.Phase.TheVariants.{Opening, Sharing, Shrinking, Closing, Retiring};
 ghost use Rattle.model.specs.declared.owner.Shrink.TheVariants as shrink_at;
 ghost use Rattle.deque.specs.Doing.{OwnerDoes};
 
 use super::Deque;
-use crate::replies::{ended, middle, middle_up, refused, reply};
+use crate::replies::{refused, reply};
 use memory::{Memory, Write};
 use model::{Access, Answer, Ending, Open, Owner, Phase, Refusal, Reply, Share, Shrink};
 
 impl<M: Memory, J: Copy, O: Copy> Deque<M, J, O> {
+    // A match on the phase, and no closures: a phase is data, of which the law speaks.
     pub fn step(&mut self) -> Reply<J, O>
         ensures does { OwnerDoes M.meaning M.picks (λ s. owner_step s) self.old result self.new }
     {
@@ -45,11 +47,11 @@ impl<M: Memory, J: Copy, O: Copy> Deque<M, J, O> {
                 let landed = self.memory.write(Write::Flag(false));
                 reply(Access::WriteFlag, landed, Answer::Going)
             }
+            Open::ReadRequest if self.memory.owner_request() => {
+                self.owner.phase = Phase::Sharing(Share::WriteRequest, Ending::Pushed);
+                reply(Access::ReadRequest, 0, Answer::Going)
+            }
             Open::ReadRequest => {
-                if self.memory.owner_request() {
-                    self.owner.phase = Phase::Sharing(Share::WriteRequest, Ending::Pushed);
-                    return reply(Access::ReadRequest, 0, Answer::Going);
-                }
                 self.owner.phase = Phase::Idle;
                 reply(Access::ReadRequest, 0, Answer::Pushed)
             }
@@ -61,13 +63,13 @@ impl<M: Memory, J: Copy, O: Copy> Deque<M, J, O> {
         ensures does { OwnerDoes M.meaning M.picks (λ s. owner_step_at s (Sharing at ending)) self.old result self.new }
     {
         match at {
+            Share::ReadRequest if self.memory.owner_request() => {
+                self.owner.phase = Phase::Sharing(Share::WriteSplit, ending);
+                reply(Access::ReadRequest, 0, Answer::Going)
+            }
             Share::ReadRequest => {
-                if self.memory.owner_request() {
-                    self.owner.phase = Phase::Sharing(Share::WriteSplit, ending);
-                    return reply(Access::ReadRequest, 0, Answer::Going);
-                }
                 self.owner.phase = Phase::Idle;
-                reply(Access::ReadRequest, 0, ended(ending))
+                reply(Access::ReadRequest, 0, ending.into())
             }
             Share::WriteSplit => {
                 let split = middle_up(self.owner.own_split, self.owner.head);
@@ -79,7 +81,7 @@ impl<M: Memory, J: Copy, O: Copy> Deque<M, J, O> {
             Share::WriteRequest => {
                 self.owner.phase = Phase::Idle;
                 let landed = self.memory.write(Write::Request(false));
-                reply(Access::WriteRequest, landed, ended(ending))
+                reply(Access::WriteRequest, landed, ending.into())
             }
         }
     }
@@ -90,9 +92,10 @@ impl<M: Memory, J: Copy, O: Copy> Deque<M, J, O> {
         match at {
             Shrink::ReadPair => self.read_pair(job),
             Shrink::WriteSplit { tail, split } => {
-                self.owner.own_split = middle(tail, split);
+                let lower = tail.midpoint(split);
+                self.owner.own_split = lower;
                 self.owner.phase = Phase::Shrinking(Shrink::Fence { tail, split }, job);
-                let landed = self.memory.write(Write::Split(middle(tail, split)));
+                let landed = self.memory.write(Write::Split(lower));
                 reply(Access::WriteSplit, landed, Answer::Going)
             }
             Shrink::Fence { tail, split } => {
@@ -102,9 +105,10 @@ impl<M: Memory, J: Copy, O: Copy> Deque<M, J, O> {
             }
             Shrink::ReadTail { tail, split } => self.read_tail(tail, split, job),
             Shrink::WriteAgain { tail, split } => {
-                self.owner.own_split = middle(tail, split);
+                let higher = tail.midpoint(split);
+                self.owner.own_split = higher;
                 to_work(&mut self.owner, job);
-                let landed = self.memory.write(Write::Split(middle(tail, split)));
+                let landed = self.memory.write(Write::Split(higher));
                 reply(Access::WriteSplit, landed, Answer::Going)
             }
         }
@@ -131,12 +135,12 @@ impl<M: Memory, J: Copy, O: Copy> Deque<M, J, O> {
         ensures does { OwnerDoes M.meaning M.picks (λ s. owner_step_at s (Shrinking (shrink_at.ReadTail tail split) job)) self.old result self.new }
     {
         let now_tail = self.memory.owner_tail();
-        if now_tail < tail || split < now_tail {
+        if !(tail..=split).contains(&now_tail) {
             return refused(Access::Step, Refusal::Misread);
         }
         if now_tail == split {
             self.owner.phase = Phase::Closing;
-        } else if now_tail > middle(tail, split) {
+        } else if now_tail > tail.midpoint(split) {
             let again = Shrink::WriteAgain {
                 tail: now_tail,
                 split,
@@ -174,4 +178,11 @@ pub(crate) fn to_work<J: Copy, O: Copy>(owner: &mut Owner<J, O>, job: J)
 {
     owner.head = owner.head.saturating_sub(1);
     owner.phase = Phase::Sharing(Share::ReadRequest, Ending::Work(job));
+}
+
+// The middle of two numbers, rounded up.
+fn middle_up(low: u16, high: u16) -> u16
+    ensures middle { result ≡ (low + high + 1) / 2 }
+{
+    (u32::from(low) + u32::from(high)).div_ceil(2) as u16
 }
