@@ -1,4 +1,3 @@
-pub mod Helped
 pub mod Kept
 pub mod Lawful
 pub mod Made

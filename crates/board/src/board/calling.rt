@@ -1,5 +1,5 @@
 // Any call, by what it asks. This is the call that a day makes for every record, and it carries the law of every run.
-ghost use Rattle.std.specs.Prelude.{◌≡◌};
+ghost use Rattle.std.specs.Prelude.{◌≡◌, ◌==◌, length};
 ghost use Rattle.board.specs.Lawful.{KeepsTheLaw};
 ghost use Rattle.board.specs.Shown.{shown, Answers};
 
@@ -21,6 +21,7 @@ impl<M: Memory, J: Job> Board<M, J> {
         self.answer(call, cells)
     }
 
+    // Apart from `call`, so that the law is shown once and not for each arm. A call is data, which a file holds.
     fn answer(
         &mut self,
         call: Call<J, J::Outcome>,
@@ -37,5 +38,12 @@ impl<M: Memory, J: Job> Board<M, J> {
             Call::Finish { helper, outcome } => self.finish(helper, outcome, cells),
             Call::Land => self.land(),
         }
+    }
+
+    // Every call but land has to be handed as many cells as the board has positions.
+    pub(super) fn fits(&self, cells: &[Cell<J, J::Outcome>]) -> bool
+        ensures fits { result ≡ (length cells.now == self.now.deque.owner.size) }
+    {
+        cells.len() == self.deque.owner.size as usize
     }
 }

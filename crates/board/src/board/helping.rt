@@ -1,12 +1,13 @@
 // The helpers' calls: each changes one record of the table.
-ghost use Rattle.std.specs.Prelude.{◌≡◌, ◌-◌, ◌<◌, ◌≤◌, true, take, is_some};
+ghost use Rattle.std.specs.Prelude.{◌≡◌, ◌-◌, ◌<◌, ◌≤◌, ◌==◌, true, length, take, is_some, if◌then◌else◌};
 ghost use Rattle.std.specs.Option.{option_map};
 ghost use Rattle.calls.specs.declared.call.Call.TheVariants.{HelperStep, Finish};
 ghost use Rattle.model.specs.Places.{at_number, changed};
 ghost use Rattle.board.specs.Shown.{Answers};
+ghost use Rattle.deque.specs.Doing.{reply_or};
 
 use super::Board;
-use deque::{finish, refused, reply};
+use deque::{finish, replied, reply};
 use jobs::Job;
 use memory::Memory;
 use model::{Access, Aim, Answer, Cell, Helper, Refusal, Reply};
@@ -20,19 +21,7 @@ impl<M: Memory, J: Job> Board<M, J> {
     ) -> Reply<J, J::Outcome>
         ensures answers { Answers M.meaning M.picks (HelperStep helper) self.old cells.old result self.new cells.new }
     {
-        if cells.len() != self.deque.owner.size as usize {
-            return refused(Access::Step, Refusal::WrongCells);
-        }
-        let Some(aim) = self.aim_of(helper) else {
-            return refused(Access::Step, Refusal::UnknownHelper);
-        };
-        match self.deque.attempt(helper, aim, cells) {
-            Ok(attempt) => {
-                self.set_aim(helper, attempt.aim);
-                attempt.reply
-            }
-            Err(refusal) => refused(Access::Step, refusal),
-        }
+        replied(Access::Step, self.step_helper(helper, cells))
     }
 
     // A helper hands in the outcome of the job it holds.
@@ -44,18 +33,48 @@ impl<M: Memory, J: Job> Board<M, J> {
     ) -> Reply<J, J::Outcome>
         ensures answers { Answers M.meaning M.picks (Finish helper outcome) self.old cells.old result self.new cells.new }
     {
-        if cells.len() != self.deque.owner.size as usize {
-            return refused(Access::Finish, Refusal::WrongCells);
-        }
-        let Some(aim) = self.aim_of(helper) else {
-            return refused(Access::Finish, Refusal::UnknownHelper);
-        };
-        let Aim::Hold(position) = aim else {
-            return refused(Access::Finish, Refusal::HoldsNone);
+        replied(Access::Finish, self.hand_in(helper, outcome, cells))
+    }
+
+    fn step_helper(
+        &mut self,
+        helper: u8,
+        cells: &mut [Cell<J, J::Outcome>],
+    ) -> Result<Reply<J, J::Outcome>, Refusal>
+        ensures answers { Answers M.meaning M.picks (HelperStep helper) self.old cells.old (reply_or Access.Step result) self.new cells.new }
+    {
+        self.expect_cells(cells)?;
+        let aim = self.aim_of(helper).ok_or(Refusal::UnknownHelper)?;
+        let attempt = self.deque.attempt(helper, aim, cells)?;
+        self.set_aim(helper, attempt.aim);
+        Ok(attempt.reply)
+    }
+
+    fn hand_in(
+        &mut self,
+        helper: u8,
+        outcome: J::Outcome,
+        cells: &mut [Cell<J, J::Outcome>],
+    ) -> Result<Reply<J, J::Outcome>, Refusal>
+        ensures answers { Answers M.meaning M.picks (Finish helper outcome) self.old cells.old (reply_or Access.Finish result) self.new cells.new }
+    {
+        self.expect_cells(cells)?;
+        let Aim::Hold(position) = self.aim_of(helper).ok_or(Refusal::UnknownHelper)? else {
+            return Err(Refusal::HoldsNone);
         };
         finish(cells, position, outcome);
         self.set_aim(helper, Aim::ReadFlag);
-        reply(Access::Finish, 0, Answer::Finished)
+        Ok(reply(Access::Finish, 0, Answer::Finished))
+    }
+
+    fn expect_cells(&self, cells: &[Cell<J, J::Outcome>]) -> Result<(), Refusal>
+        ensures expects { result ≡ (if length cells.now == self.now.deque.owner.size then Ok tt else Err Refusal.WrongCells) }
+    {
+        if self.fits(cells) {
+            Ok(())
+        } else {
+            Err(Refusal::WrongCells)
+        }
     }
 
     // Where the attempt of a helper stands, if there is such a helper.
@@ -63,11 +82,9 @@ impl<M: Memory, J: Job> Board<M, J> {
         ensures aim { result ≡ option_map (λ h. h.aim) (at_number (take self.now.helpers self.now.table) helper) }
         ensures known { is_some result ≡ true → (0 < helper) × (helper ≤ self.now.helpers) }
     {
-        match helper {
-            0 => None,
-            number if number > self.helpers => None,
-            number => Some(self.table[number as usize - 1].aim),
-        }
+        let at = (helper as usize).checked_sub(1)?;
+        let helpers = &self.table[..self.helpers as usize];
+        helpers.get(at).map(|record| record.aim)
     }
 
     fn set_aim(&mut self, helper: u8, aim: Aim)

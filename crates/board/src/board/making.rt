@@ -6,13 +6,12 @@ ghost use Rattle.model.specs.declared.cell.Cell.{Cell};
 ghost use Rattle.board.specs.Making.{unmade, made_answer, made_board};
 ghost use Rattle.board.specs.Shown.{shown};
 
-use super::{Board, MOST_HELPERS};
+use super::{Board, TABLE};
+use calls::{MOST_CELLS, MOST_HELPERS};
 use deque::Deque;
 use jobs::Job;
 use memory::Memory;
 use model::{Aim, Helper, Refusal};
-
-const MOST_CELLS: u16 = 1_024;
 
 impl<M: Memory, J: Job> Board<M, J> {
     // A board that is not made yet: every call is refused, but for land.
@@ -22,7 +21,7 @@ impl<M: Memory, J: Job> Board<M, J> {
         Board {
             deque: Deque::new(memory),
             helpers: 0,
-            table: [Helper { aim: Aim::ReadFlag }; MOST_HELPERS],
+            table: [Helper { aim: Aim::ReadFlag }; TABLE],
         }
     }
 
@@ -31,15 +30,15 @@ impl<M: Memory, J: Job> Board<M, J> {
         ensures board { (cells : List (Cell J J.Outcome)) → shown M.meaning self.new cells ≡ made_board (making size helpers cells) (shown M.meaning self.old cells) }
         ensures new { is_ok result ≡ true → (cells : List (Cell J J.Outcome)) → length cells ≡ size → New (shown M.meaning self.new cells) }
     {
-        if size < 1 || size > MOST_CELLS {
+        if !(1..=MOST_CELLS).contains(&size) {
             return Err(Refusal::WrongSize);
         }
-        if helpers < 1 || helpers as usize > MOST_HELPERS {
+        if !(1..=MOST_HELPERS).contains(&helpers) {
             return Err(Refusal::WrongHelpers);
         }
         self.deque.clear(size);
         self.helpers = helpers;
-        self.table = [Helper { aim: Aim::ReadFlag }; MOST_HELPERS];
+        self.table = [Helper { aim: Aim::ReadFlag }; TABLE];
         Ok(())
     }
 }

@@ -1,4 +1,4 @@
-// The owner's calls.
+// The owner's calls. A call answers a reply, of which a refusal is one kind, so a single test returns it without a `Result`.
 ghost use Rattle.std.specs.Prelude.{◌≡◌, List};
 ghost use Rattle.calls.specs.declared.call.Call.TheVariants.{Push, Pop, Retire, OwnerStep, Land};
 ghost use Rattle.model.specs.declared.cell.Cell.{Cell};
@@ -14,7 +14,7 @@ impl<M: Memory, J: Job> Board<M, J> {
     pub fn push(&mut self, job: J, cells: &mut [Cell<J, J::Outcome>]) -> Reply<J, J::Outcome>
         ensures answers { Answers M.meaning M.picks (Push job) self.old cells.old result self.new cells.new }
     {
-        if cells.len() != self.deque.owner.size as usize {
+        if !self.fits(cells) {
             return refused(Access::Push, Refusal::WrongCells);
         }
         self.deque.push(job, cells)
@@ -23,7 +23,7 @@ impl<M: Memory, J: Job> Board<M, J> {
     pub fn pop(&mut self, cells: &[Cell<J, J::Outcome>]) -> Reply<J, J::Outcome>
         ensures answers { Answers M.meaning M.picks Pop self.old cells.now result self.new cells.now }
     {
-        if cells.len() != self.deque.owner.size as usize {
+        if !self.fits(cells) {
             return refused(Access::Pop, Refusal::WrongCells);
         }
         self.deque.pop(cells)
@@ -32,7 +32,7 @@ impl<M: Memory, J: Job> Board<M, J> {
     pub fn retire(&mut self, cells: &[Cell<J, J::Outcome>]) -> Reply<J, J::Outcome>
         ensures answers { Answers M.meaning M.picks Retire self.old cells.now result self.new cells.now }
     {
-        if cells.len() != self.deque.owner.size as usize {
+        if !self.fits(cells) {
             return refused(Access::Retire, Refusal::WrongCells);
         }
         self.deque.retire(cells)
@@ -41,7 +41,7 @@ impl<M: Memory, J: Job> Board<M, J> {
     pub fn owner_step(&mut self, cells: &[Cell<J, J::Outcome>]) -> Reply<J, J::Outcome>
         ensures answers { Answers M.meaning M.picks OwnerStep self.old cells.now result self.new cells.now }
     {
-        if cells.len() != self.deque.owner.size as usize {
+        if !self.fits(cells) {
             return refused(Access::Step, Refusal::WrongCells);
         }
         self.deque.step()

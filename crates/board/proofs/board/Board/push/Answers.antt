@@ -1,23 +1,8 @@
-use Rattle.std.proofs.Common.{take}
+use Rattle.std.proofs.Common.{arith}
+use Rattle.std.proofs.lemmas.Grind.{common_steps}
 use Rattle.calls.specs.declared.call.Call.TheVariants.{Push}
-use Rattle.model.specs.Owning.{push}
-use Rattle.model.specs.declared.reply.Access.TheVariants as access
-use Rattle.board.specs.Shown.{shown}
-use Rattle.board.proofs.Kept.{with_own_cells, owner_keeps}
+use Rattle.board.proofs.Kept.{stays_sound}
 use Rattle.board.proofs.board.Board.push.Goals as goal
 
-pub invariant_of-self : goal.invariant_of-self
-invariant_of-self g c =
-    let b = c.args.self.now in
-    let cells = c.args.cells.now in
-    let e = push (shown g.M.Memory.meaning b cells) c.args.job in
-    let acts = c.push.ensures.begins (take b.helpers b.table) in
-    owner_keeps g.M.Memory.meaning g.M.Memory.picks b cells (Push c.args.job) c.push.result c.push.new.self c.push.new.cells (with_own_cells g.M.Memory.meaning g.M.Memory.picks b cells access.Push e c.push.result c.push.new.self c.push.new.cells c.if-cells-self.false acts)
-
-pub returns : goal.returns
-returns g c =
-    let b = c.args.self.now in
-    let cells = c.args.cells.now in
-    let e = push (shown g.M.Memory.meaning b cells) c.args.job in
-    let acts = c.push.ensures.begins (take b.helpers b.table) in
-    record { answers = with_own_cells g.M.Memory.meaning g.M.Memory.picks b cells access.Push e c.push.result c.push.new.self c.push.new.cells c.if-cells-self.false acts }
+pub invariant_of-self-clause-sound : goal.invariant_of-self-clause-sound
+invariant_of-self-clause-sound g c = stays_sound g.M.Memory.meaning g.M.Memory.picks c.args.self.now c.args.cells.now (Push c.args.job) c.push.result c.push.new.self c.push.new.cells (grind (arith, common_steps))
