@@ -19,6 +19,7 @@ impl LineFault {
         }
     }
 
+    // As each layer's fault does: `calls::Layer` says why there is no trait.
     pub fn layer(self) -> Layer
         ensures layer { result ≡ layer_of self }
     {

@@ -25,24 +25,26 @@ fn print_detail<J: Job>(answer: &Answer<J, J::Outcome>, out: &mut Text)
         }
         Answer::Refused(refusal) => {
             out.push(b' ');
-            out.push_number(refusal.number() as u64);
+            out.push_number(refusal.number());
         }
         _ => {}
     }
 }
 
+// Number, party and reply meet only on this way into a line, so there is no struct of the three. It is gathered in a text and
+// not by `Display`: `write!` may fail.
 fn line_text<J: Job>(number: u16, party: Party, reply: &Reply<J, J::Outcome>) -> Text
     ensures text { content result ≡ line_of J.form J.outcome number party reply.now }
     ensures fits { length (line_of J.form J.outcome number party reply.now) ≤ 80 }
 {
     let mut out = Text::new();
-    out.push_number(number as u64);
+    out.push_number(number);
     out.push(b' ');
     party.print(&mut out);
     out.push(b' ');
     reply.access.print(&mut out);
     out.push(b' ');
-    out.push_number(reply.landed as u64);
+    out.push_number(reply.landed);
     out.push(b' ');
     reply.answer.print_word(&mut out);
     print_detail::<J>(&reply.answer, &mut out);
@@ -65,6 +67,6 @@ pub fn write_line<J: Job>(
         return Err(LineFault::ShortBuffer);
     }
     let bytes = text.as_bytes();
-    buffer[0..bytes.len()].copy_from_slice(bytes);
+    buffer[..bytes.len()].copy_from_slice(bytes);
     Ok(bytes.len())
 }

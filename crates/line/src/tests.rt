@@ -19,7 +19,7 @@ fn prints<J: Job>(
         write_line::<J>(number, party, &reply, &mut buffer),
         Ok(line.len())
     );
-    assert!(rt; &buffer[0..line.len()] == line);
+    assert!(rt; &buffer[..line.len()] == line);
     assert_eq!(rt; buffer[79], b'.');
 }
 
