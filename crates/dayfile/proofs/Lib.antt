@@ -1,6 +1,4 @@
-pub mod Moving
 pub mod Encoding
 pub mod Holding
-pub mod Refusing
-pub mod Along
-pub mod Beginning
+pub mod Opening
+pub mod Taking

@@ -29,7 +29,12 @@ pub record Moves (s : Reader) (given : Bool) (t : Reader) : Type 0 where
   pub position : t.position ≡ cond given (s.position + record_length (unread s)) s.position
   pub within : T given → t.position ≤ length (file_of s)
 
--- r is the answer, and the length of its record
-abbrev pub Finds : {X : Type 0} → Result X FileRefusal → Result (Found X) FileRefusal → List ℕ → Type 0
-Finds answer (Ok found) rest = (answer ≡ Ok found.what) × (found.length ≡ record_length rest) × (found.length ≤ length rest)
-Finds answer (Err refusal) rest = answer ≡ Err refusal
+-- the record to be read ends here, within the file
+pub record EndsAt (s : Reader) (end : ℕ) : Type 0 where
+  pub place : end ≡ s.position + record_length (unread s)
+  pub within : end ≤ length (file_of s)
+
+-- what a record says
+abbrev pub said : {X : Type 0} → Result (Found X) FileRefusal → Result X FileRefusal
+said (Ok found) = Ok found.what
+said (Err refusal) = Err refusal

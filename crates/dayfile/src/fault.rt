@@ -1,10 +1,11 @@
 // Why a day file is refused, and at which byte. The number, layer and place of a refusal are read from it here.
-ghost use Rattle.std.specs.Prelude.{◌≡◌, ◌≤◌, length};
+ghost use Rattle.std.specs.Prelude.{◌≡◌, ◌≤◌, length, Some};
 ghost use Rattle.dayfile.specs.Faults.{number_of, layer_of, refusal_of, refusal_line};
 ghost use Rattle.text.specs.Content.{content};
 
 use calls::Layer;
 use jobs::JobFault;
+use std::fmt;
 use text::Text;
 
 // The ways in which a record is refused, in checking order.
@@ -48,7 +49,7 @@ impl FileRefusal {
     }
 }
 
-// What a job's bytes get wrong, their file gets wrong.
+// What a job's bytes get wrong, their file gets wrong: case by case, which no derive can say.
 impl From<JobFault> for FileRefusal {
     ghost from_gives = { λ fault r. r ≡ refusal_of fault };
 
@@ -74,29 +75,32 @@ impl FileFault {
         self.refusal.number()
     }
 
+    // As each layer's fault does: `calls::Layer` says why there is no trait.
     pub fn layer(self) -> Layer
         ensures layer { result ≡ layer_of self }
     {
         Layer::File
     }
 
-    // As `refused 4 at 8`.
+    // As `refused 4 at 8`. It stays beside `Display`, since it neither fails nor allocates.
     pub fn text(self) -> Text
-        ensures text { content result ≡ refusal_line self }
-        ensures short { length (refusal_line self) ≤ 60 }
-    {
-        self.refusal_text()
-    }
-
-    fn refusal_text(self) -> Text
         ensures text { content result ≡ refusal_line self }
         ensures short { length (refusal_line self) ≤ 60 }
     {
         let mut out = Text::new();
         out.push_str("refused ");
-        out.push_number(self.number() as u64);
+        out.push_number(self.number());
         out.push_str(" at ");
-        out.push_number(self.place as u64);
+        out.push_number(self.place);
         out
+    }
+}
+
+// The same text, for what formats.
+impl fmt::Display for FileFault {
+    ghost output = { λ fault. Some (refusal_line fault) };
+
+    fn fmt<W: fmt::Write>(&self, f: &mut fmt::Formatter<W>) -> fmt::Result {
+        write!(f, "refused {} at {}", self.number(), self.place)
     }
 }

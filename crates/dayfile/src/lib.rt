@@ -5,7 +5,7 @@
 mod reader;
 mod tag;
 
-pub use reader::Reader;
+pub use reader::{MOST_BYTES, MOST_READ, Reader};
 
 mod settings;
 
@@ -14,3 +14,7 @@ pub use settings::{JobKind, MemoryKind, Settings};
 mod fault;
 
 pub use fault::{FileFault, FileRefusal};
+
+mod day_file;
+
+pub use day_file::DayFile;

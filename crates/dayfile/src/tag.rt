@@ -17,18 +17,22 @@ pub(crate) enum Tag {
     Land,
 }
 
-pub(crate) fn tag_of(byte: u8) -> Result<Tag, FileRefusal>
-    ensures tag { result ≡ refuse_if (outside 1 8 byte) UnknownTag (Ok (tag_of byte)) }
-{
-    match byte {
-        1 => Ok(Tag::Board),
-        2 => Ok(Tag::Push),
-        3 => Ok(Tag::Pop),
-        4 => Ok(Tag::Retire),
-        5 => Ok(Tag::OwnerStep),
-        6 => Ok(Tag::HelperStep),
-        7 => Ok(Tag::Finish),
-        8 => Ok(Tag::Land),
-        _ => Err(FileRefusal::UnknownTag),
+impl TryFrom<u8> for Tag {
+    type Error = FileRefusal;
+
+    ghost try_from_gives = { λ byte r. r ≡ refuse_if (outside 1 8 byte) UnknownTag (Ok (tag_of byte)) };
+
+    fn try_from(byte: u8) -> Result<Tag, FileRefusal> {
+        match byte {
+            1 => Ok(Tag::Board),
+            2 => Ok(Tag::Push),
+            3 => Ok(Tag::Pop),
+            4 => Ok(Tag::Retire),
+            5 => Ok(Tag::OwnerStep),
+            6 => Ok(Tag::HelperStep),
+            7 => Ok(Tag::Finish),
+            8 => Ok(Tag::Land),
+            _ => Err(FileRefusal::UnknownTag),
+        }
     }
 }
