@@ -2,11 +2,9 @@
 // All it prints is made by `listing`; here is only what reaches outside.
 #![tactic(auto)]
 
+use dayfile::MOST_READ;
 use listing::list_day;
 use std::io::{Read, Write};
-
-// One byte more than a day file may have, so that a longer one is seen to be too long.
-const MOST_READ: u64 = 61_441;
 
 fn run(rt: &HostRuntime) -> anyhow::Result<()> {
     let mut bytes = Vec::new(rt.alloc());

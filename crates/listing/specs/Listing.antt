@@ -1,10 +1,11 @@
 -- The whole listing of a day file, by what the file holds. Assumes nothing.
-use Rattle.std.specs.Prelude.{◌≡◌, ℕ, ◌≤◌, true, T, List, [], ◌∷◌, ◌++◌, length, drop, Some, None, Ok, Err, Option, Result}
+use Rattle.std.specs.Prelude.{◌≡◌, ℕ, ◌≤◌, true, T, List, [], ◌∷◌, ◌++◌, length, Some, None, Ok, Err, Option, Result}
 use Rattle.std.specs.List.{AllByRecursion}
 use Rattle.calls.specs.declared.call.Call.{Call}
 use Rattle.dayfile.specs.Encoding.{settings_fit, call_fits, day_bytes}
-use Rattle.dayfile.specs.Format.{record_length, settings_from}
-use Rattle.dayfile.specs.Holding.{Held, held}
+use Rattle.dayfile.specs.Faults.{refusal_line}
+use Rattle.dayfile.specs.Format.{settings_from}
+use Rattle.dayfile.specs.Holding.{Held, held_in}
 use Rattle.dayfile.specs.declared.fault.FileFault.{FileFault}
 use Rattle.dayfile.specs.declared.fault.FileRefusal.{FileRefusal}
 use Rattle.dayfile.specs.declared.settings.JobKind.{JobKind}
@@ -13,14 +14,15 @@ use Rattle.dayfile.specs.declared.settings.Settings.{Settings}
 use Rattle.jobs.specs.Card.{card_form, balance_form}
 use Rattle.jobs.specs.Form.{Form}
 use Rattle.jobs.specs.Label.{label_form, printed_form}
-use Rattle.listing.specs.Counts.{nothing_yet, tally, total_of}
-use Rattle.listing.specs.Lines.{line, board_line, call_line, refusal_line, closing_front, closing_back}
+use Rattle.listing.specs.Counts.{nothing_yet, tally, total_of, closing}
+use Rattle.listing.specs.Lines.{board_line, call_line}
+use Rattle.text.specs.Content.{line}
 use Rattle.listing.specs.declared.counts.Counts.{Counts}
 
 module _ {J O : Type 0} (job : Form J) (outcome : Form O) where
   -- a line for each call, numbered on from the counts so far; then the counts, or what is wrong with the next record
   abbrev pub lines_from : Counts → List (Call J O) → Option FileFault → List ℕ
-  lines_from n [] None = line (closing_front n ++ closing_back n)
+  lines_from n [] None = line (closing n)
   lines_from n [] (Some fault) = line (refusal_line fault)
   lines_from n (call ∷ calls) fault = line (call_line job outcome (total_of (tally call n)) call) ++ lines_from (tally call n) calls fault
 
@@ -29,8 +31,7 @@ module _ {J O : Type 0} (job : Form J) (outcome : Form O) where
 
   -- the lines of all that stands after the board's record
   abbrev pub calls_listed : List ℕ → List ℕ
-  calls_listed file =
-      lines_of nothing_yet (held job outcome (length file) (record_length file) (drop (record_length file) file))
+  calls_listed file = lines_of nothing_yet (held_in job outcome file)
 
 abbrev pub listed : JobKind → List ℕ → List ℕ
 listed Cards file = calls_listed card_form balance_form file

@@ -1,10 +1,11 @@
 // How many calls of each kind a listing has so far.
-ghost use Rattle.std.specs.Prelude.{◌≡◌, ◌<◌};
-ghost use Rattle.listing.specs.Counts.{total_of, tally, nothing_yet};
+ghost use Rattle.std.specs.Prelude.{◌≡◌, ◌<◌, Some};
+ghost use Rattle.listing.specs.Counts.{total_of, tally, closing};
 
 use calls::Call;
+use std::fmt;
 
-#[derive(Clone, Copy)]
+#[derive(Clone, Copy, Default)]
 pub(crate) struct Counts {
     pub(crate) push: u16,
     pub(crate) pop: u16,
@@ -16,34 +17,19 @@ pub(crate) struct Counts {
 }
 
 impl Counts {
-    pub(crate) fn new() -> Counts
-        ensures none { result ≡ nothing_yet }
+    pub(crate) fn total(&self) -> u32
+        ensures total { result ≡ total_of self.now }
     {
-        Counts {
-            push: 0,
-            pop: 0,
-            retire: 0,
-            owner_step: 0,
-            helper_step: 0,
-            finish: 0,
-            land: 0,
-        }
+        self.push as u32
+            + self.pop as u32
+            + self.retire as u32
+            + self.owner_step as u32
+            + self.helper_step as u32
+            + self.finish as u32
+            + self.land as u32
     }
 
     // A day file has far fewer records than the counts can hold.
-    pub(crate) fn total(&self) -> u16
-        requires { total_of self.now < 65536 }
-        ensures total { result ≡ total_of self.now }
-    {
-        self.push
-            + self.pop
-            + self.retire
-            + self.owner_step
-            + self.helper_step
-            + self.finish
-            + self.land
-    }
-
     pub(crate) fn add<J, O>(&mut self, call: &Call<J, O>)
         requires { total_of self.old < 65535 }
         ensures tally { self.new ≡ tally call.now self.old }
@@ -57,5 +43,24 @@ impl Counts {
             Call::Finish { .. } => self.finish += 1,
             Call::Land => self.land += 1,
         }
+    }
+}
+
+// The closing line of a listing.
+impl fmt::Display for Counts {
+    ghost output = { λ counts. Some (closing counts) };
+
+    fn fmt<W: fmt::Write>(&self, f: &mut fmt::Formatter<W>) -> fmt::Result {
+        let total = self.total();
+        write!(
+            f,
+            "{total} calls: push {}, pop {}, retire {}",
+            self.push, self.pop, self.retire
+        )?;
+        write!(
+            f,
+            ", owner step {}, helper step {}, finish {}, land {}",
+            self.owner_step, self.helper_step, self.finish, self.land
+        )
     }
 }

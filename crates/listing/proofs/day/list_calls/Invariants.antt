@@ -1,15 +1,17 @@
-use Rattle.std.proofs.Common.{◌-◌, ◌++◌, length, vec_items}
-use Rattle.dayfile.specs.Reading.{file_of}
-use Rattle.listing.specs.Counts.{nothing_yet}
-use Rattle.listing.proofs.Output.{Listing, remaining}
+use Rattle.std.proofs.Common.{◌≡◌, ◌-◌, ◌≤◌, ◌++◌, vec_items}
+use Rattle.dayfile.specs.Opened.{left}
+use Rattle.listing.specs.Counts.{nothing_yet, total_of}
+use Rattle.listing.specs.Listing.{lines_of}
 use Rattle.listing.proofs.day.list_calls.Given as goal
 
-abbrev pub invariant-loop-next : goal.invariant-loop-next
-invariant-loop-next g l =
+abbrev pub invariant-loop-call : goal.invariant-loop-call
+invariant-loop-call g l =
     let job = g.J.Job.form in
     let outcome = g.J.Job.outcome in
-    let r = l.initial.reader in
-    Listing job outcome (file_of r) (vec_items l.initial.out ++ remaining job outcome (length (file_of r)) r nothing_yet) l.reader l.counts (vec_items l.out)
+    record {
+      shown : vec_items l.out ++ lines_of job outcome l.counts (left job outcome l.file) ≡ vec_items l.initial.out ++ lines_of job outcome nothing_yet (left job outcome l.initial.file);
+      few : total_of l.counts ≤ l.file.reader.position;
+    }
 
-abbrev pub decreases-loop-next : goal.decreases-loop-next
-decreases-loop-next g l = length (file_of l.reader) - l.reader.position
+abbrev pub decreases-loop-call : goal.decreases-loop-call
+decreases-loop-call g l = 61440 - l.file.reader.position

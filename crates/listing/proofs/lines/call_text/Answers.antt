@@ -1,16 +1,12 @@
-use Rattle.std.proofs.Common.{◌≤◌, length, ap, subst, arith, length-append}
-use Rattle.calls.specs.Calls.{party_text}
-use Rattle.calls.specs.declared.party.Party.{Party}
-use Rattle.text.proofs.Fitting.{five_digits, same_piece, then, whole}
+use Rattle.std.proofs.Common.{arith, length-append}
+use Rattle.text.proofs.Fitting.{then, whole}
 use Rattle.listing.proofs.lines.call_text.Goals as goal
 
 pub returns : goal.returns
 returns g c =
-    let same = c.party.ensures.party in
-    let party = same_piece (ap party_text same) c.print.ensures.gains in
-    let party-short = subst (λ (p : Party). length (party_text p) ≤ 4) same c.print.ensures.short in
-    let name-short = c.print_name.ensures.short in
-    let argument-short = c.print_argument.ensures.short in
-    let number_short = five_digits c.args.number (omega arith) in
-    let gains = then c.push_number.ensures.gains (then c.push.ensures.gains (then party (then c.push-2.ensures.gains (then c.print_name.ensures.gains c.print_argument.ensures.gains)))) in
+    let number = c.push_number.ensures in
+    let party = rw c.party.ensures.party at c.print.ensures in
+    let name = c.print_name.ensures in
+    let argument = c.print_argument.ensures in
+    let gains = then number.gains (then c.push.ensures.gains (then party.gains (then c.push-2.ensures.gains (then name.gains argument.gains)))) in
     record { text = whole c.new-out.ensures.empty gains (simp length-append (omega arith)) }

@@ -1,9 +1,0 @@
-use Rattle.text.proofs.Fitting.{then, whole}
-use Rattle.listing.proofs.Short.{back_short}
-use Rattle.listing.proofs.lines.closing_back_text.Goals as goal
-
-pub returns : goal.returns
-returns c =
-    let gains =
-    then c.push_str.ensures.gains (then c.push_number.ensures.gains (then c.push_str-2.ensures.gains (then c.push_number-2.ensures.gains (then c.push_str-3.ensures.gains (then c.push_number-3.ensures.gains (then c.push_str-4.ensures.gains c.push_number-4.ensures.gains)))))) in
-    record { text = whole c.new-out.ensures.empty gains (back_short c.args.counts.now c.requires) }
