@@ -3,11 +3,9 @@
 #![tactic(auto)]
 
 use anyhow::anyhow;
+use dayfile::MOST_READ;
 use runner::{DayFault, run_day};
 use std::io::{Read, Write};
-
-// One byte more than a day file may have, so that a longer one is seen to be too long.
-const MOST_READ: u64 = 61_441;
 
 fn run(rt: &HostRuntime) -> anyhow::Result<()> {
     let mut file = Vec::new(rt.alloc());

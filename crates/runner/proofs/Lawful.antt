@@ -6,13 +6,14 @@ use Rattle.board.proofs.Made.{is_new}
 use Rattle.calls.specs.Calls.{party_of}
 use Rattle.calls.specs.declared.call.Call.{Call}
 use Rattle.dayfile.specs.Format.{settings_from}
+use Rattle.dayfile.specs.Holding.{held_in}
 use Rattle.dayfile.specs.declared.fault.FileRefusal.{FileRefusal}
 use Rattle.dayfile.specs.declared.settings.JobKind.{JobKind}
 use Rattle.dayfile.specs.declared.settings.JobKind.TheVariants.{Cards, Labels}
 use Rattle.dayfile.specs.declared.settings.MemoryKind.{MemoryKind}
 use Rattle.dayfile.specs.declared.settings.MemoryKind.TheVariants.{Direct, Queued}
 use Rattle.dayfile.specs.declared.settings.Settings.{Settings}
-use Rattle.dayfile.proofs.Beginning.{InBounds, in_bounds}
+use Rattle.dayfile.proofs.Opening.{InBounds, in_bounds}
 use Rattle.jobs.specs.Card.{card_form, balance_form}
 use Rattle.jobs.specs.Form.{Form}
 use Rattle.jobs.specs.Label.{label_form, printed_form}
@@ -20,10 +21,11 @@ use Rattle.line.specs.Lines.{line_of}
 use Rattle.memory.specs.Meaning as memory
 use Rattle.model.specs.Calls.{Entry, effect_of}
 use Rattle.model.specs.Histories.{New, Runs}
+use Rattle.model.specs.Places.{new_cell}
 use Rattle.model.specs.State.{State}
 use Rattle.model.proofs.Lawful.{holds_always}
 use Rattle.text.specs.Content.{line}
-use Rattle.runner.specs.Days.{reply_by, after_by, lines_by, lands_in, blank, blank_card, blank_label, start_of, calls_in, day_by, day_under, day_of}
+use Rattle.runner.specs.Days.{reply_by, after_by, lines_by, lands_in, blank_card, blank_label, start_of, day_by, day_under, day_of}
 use Rattle.runner.specs.Lawful.{LawfulLines, LawfulBy, LawfulUnder, LawfulDay}
 use Rattle.runner.specs.Running.{asked, printed}
 
@@ -111,16 +113,16 @@ module _ {J O : Type 0} (job : Form J) (outcome : Form O) (kind : MemoryKind) (s
 module _ {J O : Type 0} (job : Form J) (outcome : Form O) (any : J) (settings : Settings) (bounds : InBounds settings) where
   starts_new : New (start_of job outcome any settings)
   starts_new =
-      is_new (start_of job outcome any settings) settings.size settings.helpers (replicate settings.size (blank any)) refl bounds.some_cells bounds.few_cells bounds.some_helpers bounds.few_helpers (length-replicate settings.size (blank any))
+      is_new (start_of job outcome any settings) settings.size settings.helpers (replicate settings.size (new_cell any)) refl bounds.some_cells bounds.few_cells bounds.some_helpers bounds.few_helpers (length-replicate settings.size (new_cell any))
 
   pub lawful_on : (calls : List (Call J O)) → LawfulLines job outcome (start_of job outcome any settings) calls (lines_by (lands_in settings.memory) job outcome (start_of job outcome any settings) 1 calls)
   lawful_on calls = lawful_run job outcome settings.memory (start_of job outcome any settings) starts_new refl calls
 
 by_kind : (kind : JobKind) (settings : Settings) (file : List ℕ) → InBounds settings → day_of file ≡ day_by kind settings file → LawfulBy kind settings file
 by_kind Cards settings file bounds day =
-    subst (LawfulLines card_form balance_form _ _) (sym (ap (λ d. d.lines) day)) (lawful_on card_form balance_form blank_card settings bounds (calls_in card_form balance_form file).calls)
+    subst (LawfulLines card_form balance_form _ _) (sym (ap (λ d. d.lines) day)) (lawful_on card_form balance_form blank_card settings bounds (held_in card_form balance_form file).calls)
 by_kind Labels settings file bounds day =
-    subst (LawfulLines label_form printed_form _ _) (sym (ap (λ d. d.lines) day)) (lawful_on label_form printed_form blank_label settings bounds (calls_in label_form printed_form file).calls)
+    subst (LawfulLines label_form printed_form _ _) (sym (ap (λ d. d.lines) day)) (lawful_on label_form printed_form blank_label settings bounds (held_in label_form printed_form file).calls)
 
 under : (x : Result Settings FileRefusal) (file : List ℕ) → settings_from true file ≡ x → LawfulUnder x file
 under (Ok settings) file is = by_kind settings.jobs settings file (in_bounds true file settings is) (ap (λ x. day_under x file) is)

@@ -3,6 +3,9 @@ use Rattle.std.proofs.Common.{◌≡◌, ℕ, suc, ◌+◌, List, [], ◌∷◌,
 use Rattle.calls.specs.Calls.{party_of}
 use Rattle.calls.specs.declared.call.Call.{Call}
 use Rattle.dayfile.specs.Holding.{Held}
+use Rattle.dayfile.specs.Opened.{left}
+use Rattle.dayfile.specs.declared.day_file.DayFile.{DayFile}
+use Rattle.dayfile.specs.declared.settings.MemoryKind.{MemoryKind}
 use Rattle.deque.specs.Doing.{Acts}
 use Rattle.jobs.specs.Form.{Form}
 use Rattle.line.specs.Lines.{line_of}
@@ -11,7 +14,7 @@ use Rattle.memory.specs.Meaning as memory
 use Rattle.model.specs.Calls.{Entry, effect_of}
 use Rattle.model.specs.State.{State, reply_of, state_after}
 use Rattle.text.specs.Content.{line}
-use Rattle.runner.specs.Days.{reply_by, after_by, lines_by, Prints}
+use Rattle.runner.specs.Days.{reply_by, after_by, lines_by, lands_in, start_of, day_on, Prints}
 use Rattle.runner.specs.Running.{asked, RunsBy, Ends, printed, Ran}
 use Rattle.runner.specs.declared.fault.DayFault.{DayFault}
 use Rattle.runner.specs.declared.fault.DayFault.TheVariants.{File, Board, Line, NoMemory}
@@ -94,3 +97,10 @@ module _ {J O : Type 0} (lands : memory.Access → memory.Meaning → ℕ) where
       pub ran_prints : (start : State J O) (all : Held J O) (out : List ℕ) (r : Result (Unit {0}) DayFault) (out' : List ℕ) → Ran job outcome picks start all out r out' → Prints (lines_by lands job outcome start 1 all.calls) all.fault out r out'
       ran_prints start all out r out' ran =
           ended_so start all out r out' (asked ran.history) (ran.prints ∙ ap (λ l. out ++ l) (run_so start ran.history ran.last ran.runs).1) ran.ends
+
+-- a day file's calls, on a memory of its kind
+pub day_prints : {J O : Type 0} (job : Form J) (outcome : Form O) (any : J) (d : DayFile) (kind : MemoryKind) (same : d.settings.memory ≡ kind) (picks : memory.Access → ℕ → memory.Meaning → Type 0) (pins : Pins picks (lands_in kind)) (out : List ℕ) (r : Result (Unit {0}) DayFault) (out' : List ℕ) → Ran job outcome picks (start_of job outcome any d.settings) (left job outcome d) out r out' → Prints (day_on job outcome any d.settings (left job outcome d)).lines (left job outcome d).fault out r out'
+day_prints job outcome any d kind same picks pins out r out' ran =
+    let start = start_of job outcome any d.settings in
+    let all = left job outcome d in
+    subst (λ k. Prints (lines_by (lands_in k) job outcome start 1 all.calls) all.fault out r out') (sym same) (ran_prints (lands_in kind) job outcome picks pins start all out r out' ran)

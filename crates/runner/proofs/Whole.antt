@@ -1,17 +1,15 @@
 -- The whole day, from the board's record on. Assumes nothing.
 use Rattle.std.proofs.Common.{◌≡◌, ℕ, true, List, [], ◌++◌, Some, Ok, Err, Option, Result, sym, refl, ap, ◌∙◌, subst, append_assoc, append-nil}
-use Rattle.dayfile.specs.Faults.{refusal_line}
-use Rattle.dayfile.specs.Format.{settings_from, placed}
-use Rattle.dayfile.specs.Reading.{file_of, at_start, unread, Moves}
+use Rattle.dayfile.specs.Format.{record_length, settings_from}
+use Rattle.dayfile.specs.Holding.{held_in}
+use Rattle.dayfile.specs.Opened.{left}
+use Rattle.dayfile.specs.Reading.{file_of}
+use Rattle.dayfile.specs.declared.day_file.DayFile.{DayFile}
 use Rattle.dayfile.specs.declared.fault.FileFault.{FileFault}
-use Rattle.dayfile.specs.declared.reader.Reader.{Reader}
 use Rattle.dayfile.specs.declared.settings.JobKind.{JobKind}
-use Rattle.dayfile.specs.declared.settings.Settings.{Settings}
-use Rattle.dayfile.proofs.Along.{ok_read, err_read}
-use Rattle.dayfile.proofs.Beginning.{first_record, held_after, InBounds, in_bounds}
+use Rattle.dayfile.proofs.Opening.{left_whole}
 use Rattle.jobs.specs.Form.{Form}
-use Rattle.text.specs.Content.{line}
-use Rattle.runner.specs.Days.{Day, day_on, calls_in, left_in, day_by, day_under, day_of, fault_line, Prints}
+use Rattle.runner.specs.Days.{Day, day_on, day_by, day_under, day_of, fault_line, Prints}
 use Rattle.runner.specs.declared.fault.DayFault.{DayFault}
 use Rattle.runner.specs.declared.fault.DayFault.TheVariants.{File, Board, Line, NoMemory}
 
@@ -19,42 +17,20 @@ use Rattle.runner.specs.declared.fault.DayFault.TheVariants.{File, Board, Line, 
 abbrev PrintsDay : Day → List ℕ → Result (Unit {0}) DayFault → List ℕ → Type 0
 PrintsDay d out r out' = Prints d.lines d.fault out r out'
 
-module _ (file : List ℕ) (r : Reader) (whole : file_of r ≡ file) (start : r.position ≡ 0) where
+module _ (file : List ℕ) where
   -- the first record is refused
-  pub refused_whole : (fault : FileFault) (turned : DayFault) (res : Result (Unit {0}) DayFault) (out : List ℕ) → Err fault ≡ placed r.position (settings_from (at_start r) (unread r)) → res ≡ Err turned → turned ≡ File fault → Prints (day_of file).lines (day_of file).fault out res out
-  refused_whole fault turned res out is told as_file =
-      let (refusal, read, at) = err_read r.position fault (settings_from (at_start r) (unread r)) is in
-      let refused = sym (first_record file r whole start) ∙ read in
-      let here = at ∙ ap (λ p. record { refusal = refusal; place = p }) start in
-      subst (λ x. PrintsDay (day_under x file) out res out) (sym refused) (subst (λ x. Prints [] (Some (record { refusal = refusal; place = 0 })) out x out) (sym (told ∙ ap Err as_file)) (sym (append-nil out), ap Some (sym here)))
+  pub refused_whole : (fault : FileFault) (turned : DayFault) (res : Result (Unit {0}) DayFault) (out : List ℕ) → settings_from true file ≡ Err fault.refusal → fault.place ≡ 0 → res ≡ Err turned → turned ≡ File fault → PrintsDay (day_of file) out res out
+  refused_whole fault turned res out refused at told as_file =
+      let here = ap (λ (p : ℕ). Some (record { refusal = fault.refusal; place = p })) at in
+      subst (λ x. PrintsDay (day_under x file) out res out) (sym refused) (subst (λ x. Prints [] (Some (record { refusal = fault.refusal; place = 0 })) out x out) (sym (told ∙ ap Err as_file)) (sym (append-nil out), sym here))
 
-  module _ (settings : Settings) (is : Ok settings ≡ placed r.position (settings_from (at_start r) (unread r))) where
-    read : settings_from true file ≡ Ok settings
-    read = sym (first_record file r whole start) ∙ ok_read r.position settings (settings_from (at_start r) (unread r)) is
+  -- the calls after it, for the file's kind of job
+  pub calls_whole : {J O : Type 0} (job : Form J) (outcome : Form O) (any : J) (kind : JobKind) (d : DayFile) (out : List ℕ) (res : Result (Unit {0}) DayFault) (out' : List ℕ) → ((f : List ℕ) → day_by kind d.settings f ≡ day_on job outcome any d.settings (held_in job outcome f)) → d.settings.jobs ≡ kind → settings_from true file ≡ Ok d.settings → file_of d.reader ≡ file → d.reader.position ≡ record_length file → PrintsDay (day_on job outcome any d.settings (left job outcome d)) out res out' → PrintsDay (day_of file) out res out'
+  calls_whole job outcome any kind d out res out' by_kind of_kind read whole past prints =
+      let day = ap (day_on job outcome any d.settings) (left_whole job outcome d file whole past) ∙ sym (by_kind file) ∙ ap (λ k. day_by k d.settings file) (sym of_kind) ∙ sym (ap (λ x. day_under x file) read) in
+      subst (λ x. PrintsDay x out res out') day prints
 
-    pub bounds : InBounds settings
-    bounds = in_bounds true file settings read
-
-    -- the calls after it, for the file's kind of job
-    pub calls_whole : {J O : Type 0} (job : Form J) (outcome : Form O) (any : J) (kind : JobKind) (r' : Reader) (out : List ℕ) (res : Result (Unit {0}) DayFault) (out' : List ℕ) → ((f : List ℕ) → day_by kind settings f ≡ day_on job outcome any settings (calls_in job outcome f)) → settings.jobs ≡ kind → Moves r true r' → Prints (day_on job outcome any settings (left_in job outcome r')).lines (left_in job outcome r').fault out res out' → Prints (day_of file).lines (day_of file).fault out res out'
-    calls_whole job outcome any kind r' out res out' by_kind of_kind moves prints =
-        let day : day_on job outcome any settings (left_in job outcome r') ≡ day_of file =
-        ap (day_on job outcome any settings) (held_after file r whole start r' moves job outcome) ∙ sym (by_kind file) ∙ ap (λ k. day_by k settings file) (sym of_kind) ∙ sym (ap (λ x. day_under x file) read) in
-        subst (λ d. PrintsDay d out res out') day prints
-
-pub not_of_a_file : (met : DayFault) → ((refused : FileFault) → met ≡ File refused → ⊥) → (refused : FileFault) → ◌≡◌ {A = Result (Unit {0}) DayFault} (Err met) (Err (File refused)) → ⊥
-not_of_a_file met not refused is = not refused (cc)
-
--- the line of a refused record comes after those of all earlier calls
 module _ (lines : List ℕ) (fault : Option FileFault) (out : List ℕ) where
-  with_refusal : (refused : FileFault) (out₁ out₂ : List ℕ) → (out₁ ≡ out ++ lines) × (fault ≡ Some refused) → out₂ ≡ out₁ ++ line (refusal_line refused) → Prints (lines ++ fault_line fault) fault out (Err (File refused)) out₂
-  with_refusal refused out₁ out₂ (gained, is) more =
-      (more ∙ ap (λ o. o ++ line (refusal_line refused)) gained ∙ append_assoc out lines (line (refusal_line refused)) ∙ ap (λ f. out ++ (lines ++ fault_line f)) (sym is), is)
-
-  pub refusal_printed : (met : DayFault) (refused : FileFault) (out₁ out₂ : List ℕ) → met ≡ File refused → Prints lines fault out (Err met) out₁ → out₂ ≡ out₁ ++ line (refusal_line refused) → Prints (lines ++ fault_line fault) fault out (Err (File refused)) out₂
-  refusal_printed met refused out₁ out₂ is prints more =
-      with_refusal refused out₁ out₂ (subst (λ x. Prints lines fault out (Err x) out₁) is prints) more
-
   -- any other end has no such line
   pub other_end : (r : Result (Unit {0}) DayFault) (out' : List ℕ) → ((refused : FileFault) → r ≡ Err (File refused) → ⊥) → Prints lines fault out r out' → Prints (lines ++ fault_line fault) fault out r out'
   other_end (Ok x) out' not_file (gained, none) =

@@ -1,14 +1,12 @@
 -- What a day prints, by the bytes of its file. Assumes nothing.
-use Rattle.std.specs.Prelude.{◌≡◌, ℕ, suc, true, List, [], ◌∷◌, ◌++◌, length, drop, replicate, Some, None, Ok, Err, Option, Result}
+use Rattle.std.specs.Prelude.{◌≡◌, ℕ, suc, true, List, [], ◌∷◌, ◌++◌, replicate, Some, None, Ok, Err, Option, Result}
 use Rattle.calls.specs.Calls.{party_of}
 use Rattle.calls.specs.declared.call.Call.{Call}
 use Rattle.dayfile.specs.Faults.{refusal_line}
-use Rattle.dayfile.specs.Format.{record_length, settings_from}
-use Rattle.dayfile.specs.Holding.{Held, held}
-use Rattle.dayfile.specs.Reading.{file_of, unread}
+use Rattle.dayfile.specs.Format.{settings_from}
+use Rattle.dayfile.specs.Holding.{Held, held_in}
 use Rattle.dayfile.specs.declared.fault.FileFault.{FileFault}
 use Rattle.dayfile.specs.declared.fault.FileRefusal.{FileRefusal}
-use Rattle.dayfile.specs.declared.reader.Reader.{Reader}
 use Rattle.dayfile.specs.declared.settings.JobKind.{JobKind}
 use Rattle.dayfile.specs.declared.settings.JobKind.TheVariants.{Cards, Labels}
 use Rattle.dayfile.specs.declared.settings.MemoryKind.{MemoryKind}
@@ -24,8 +22,8 @@ use Rattle.line.specs.Lines.{line_of}
 use Rattle.memory.specs.Kept.{direct_lands, queued_lands}
 use Rattle.memory.specs.Meaning as memory
 use Rattle.model.specs.Calls.{effect_of, new_board}
+use Rattle.model.specs.Places.{new_cell}
 use Rattle.model.specs.State.{State, Effect, reply_of, state_after}
-use Rattle.model.specs.declared.cell.Cell.{Cell}
 use Rattle.model.specs.declared.reply.Reply.{Reply}
 use Rattle.text.specs.Content.{line}
 use Rattle.runner.specs.declared.fault.DayFault.{DayFault}
@@ -60,9 +58,6 @@ pub record Day : Type 0 where
   pub fault : Option FileFault
 
 -- what the cells of a new board hold is never seen
-abbrev pub blank : {J O : Type 0} → J → Cell J O
-blank job = record { job = job; taker = None; outcome = None }
-
 abbrev pub blank_card : CardJob
 blank_card = Award 0 0
 
@@ -72,7 +67,7 @@ blank_label = record { first = 0; count = 0 }
 module _ {J O : Type 0} (job : Form J) (outcome : Form O) (any : J) where
   -- a board just made
   abbrev pub start_of : Settings → State J O
-  start_of settings = new_board settings.size settings.helpers (replicate settings.size (blank any))
+  start_of settings = new_board settings.size settings.helpers (replicate settings.size (new_cell any))
 
   -- what the calls print that a file holds
   abbrev pub day_on : Settings → Held J O → Day
@@ -81,18 +76,9 @@ module _ {J O : Type 0} (job : Form J) (outcome : Form O) (any : J) where
     fault = all.fault;
   }
 
-module _ {J O : Type 0} (job : Form J) (outcome : Form O) where
-  -- all that stands after the board's record
-  abbrev pub calls_in : List ℕ → Held J O
-  calls_in file = held job outcome (length file) (record_length file) (drop (record_length file) file)
-
-  -- and what a reader has left
-  abbrev pub left_in : Reader → Held J O
-  left_in r = held job outcome (length (file_of r)) r.position (unread r)
-
 abbrev pub day_by : JobKind → Settings → List ℕ → Day
-day_by Cards settings file = day_on card_form balance_form blank_card settings (calls_in card_form balance_form file)
-day_by Labels settings file = day_on label_form printed_form blank_label settings (calls_in label_form printed_form file)
+day_by Cards settings file = day_on card_form balance_form blank_card settings (held_in card_form balance_form file)
+day_by Labels settings file = day_on label_form printed_form blank_label settings (held_in label_form printed_form file)
 
 abbrev pub day_under : Result Settings FileRefusal → List ℕ → Day
 day_under (Ok settings) file = day_by settings.jobs settings file

@@ -2,6 +2,7 @@
 use Rattle.std.specs.Prelude.{◌≡◌, ℕ, true, List, Ok, Err, Result}
 use Rattle.calls.specs.declared.call.Call.{Call}
 use Rattle.dayfile.specs.Format.{settings_from}
+use Rattle.dayfile.specs.Holding.{held_in}
 use Rattle.dayfile.specs.declared.fault.FileRefusal.{FileRefusal}
 use Rattle.dayfile.specs.declared.settings.JobKind.{JobKind}
 use Rattle.dayfile.specs.declared.settings.JobKind.TheVariants.{Cards, Labels}
@@ -13,7 +14,7 @@ use Rattle.model.specs.Calls.{Entry}
 use Rattle.model.specs.Histories.{New, Runs}
 use Rattle.model.specs.Law.{Holds}
 use Rattle.model.specs.State.{State}
-use Rattle.runner.specs.Days.{blank_card, blank_label, start_of, calls_in, day_of}
+use Rattle.runner.specs.Days.{blank_card, blank_label, start_of, day_of}
 use Rattle.runner.specs.Running.{asked, printed}
 
 module _ {J O : Type 0} (job : Form J) (outcome : Form O) where
@@ -29,9 +30,9 @@ module _ {J O : Type 0} (job : Form J) (outcome : Form O) where
 
 abbrev pub LawfulBy : JobKind → Settings → List ℕ → Type 0
 LawfulBy Cards settings file =
-    LawfulLines card_form balance_form (start_of card_form balance_form blank_card settings) (calls_in card_form balance_form file).calls (day_of file).lines
+    LawfulLines card_form balance_form (start_of card_form balance_form blank_card settings) (held_in card_form balance_form file).calls (day_of file).lines
 LawfulBy Labels settings file =
-    LawfulLines label_form printed_form (start_of label_form printed_form blank_label settings) (calls_in label_form printed_form file).calls (day_of file).lines
+    LawfulLines label_form printed_form (start_of label_form printed_form blank_label settings) (held_in label_form printed_form file).calls (day_of file).lines
 
 -- a file whose board is refused has no calls
 abbrev pub LawfulUnder : Result Settings FileRefusal → List ℕ → Type 0

@@ -9,7 +9,8 @@ use line::LineFault;
 use model::Refusal;
 use std::alloc::{AllocError, AllocFailed};
 
-// A fault with the number of the call that met it, or 0 where the board is made.
+// A fault with the number of the call that met it, or 0 where the board is made: no `Option`, since `DayFault::call` promises
+// the 0 there.
 #[derive(Clone, Copy)]
 pub struct CallFault<F> {
     pub fault: F,
@@ -25,6 +26,7 @@ pub enum DayFault {
     NoMemory,
 }
 
+// By hand, since a derived `From` has no clause, and contracts name the fault that a `?` makes.
 impl From<FileFault> for DayFault {
     ghost from_gives = { λ fault r. r ≡ File fault };
 
