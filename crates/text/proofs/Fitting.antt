@@ -1,6 +1,9 @@
 -- What fits into a text, one piece after another. Assumes nothing.
-use Rattle.std.proofs.Common.{◌≡◌, ℕ, zero, suc, ◌+◌, ◌<◌, ◌≤◌, List, [], ◌∷◌, ◌++◌, length, take, set, sym, refl, ap, ◌∙◌, subst, append_assoc, append-nil, arith}
-use Rattle.std.proofs.lemmas.List.{take_all, take-append-le, take_more_set, length_push, length-take-le}
+use borrow.Rule.Slice.PartMut.{put_mid}
+use Rattle.std.proofs.Common.{◌≡◌, ℕ, zero, suc, ◌+◌, ◌-◌, ◌<◌, ◌≤◌, min, List, [], ◌∷◌, ◌++◌, length, take, set, sym, refl, ap, ◌∙◌, subst, append_assoc, append-nil, arith}
+use Rattle.std.proofs.Math.Seq.{take-append-add}
+use Rattle.std.proofs.lemmas.Slice.{take-put_mid}
+use Rattle.std.proofs.lemmas.List.{take_min, length-take, take_all, take-append-le, take_more_set, length_push, length-take-le}
 use Rattle.text.specs.Content.{content, fitting, Gains}
 use Rattle.text.specs.declared.text.Text.{Text}
 
@@ -43,3 +46,12 @@ module _ (t : Text) where
   none_fits piece full =
       let long : 80 ≤ length (content t) = omega (arith, held) in
       sym (take-append-le 80 (content t) piece long ∙ take_all 80 _ (omega (arith, held, t.within)))
+
+  -- the front of a piece, as much as there is room for, written behind what is held
+  pub front_fits : (piece front : List ℕ) (n : ℕ) → n ≡ min (80 - t.len) (length piece) → front ≡ take n piece → take (t.len + n) (put_mid t.len (t.len + n - t.len) t.bytes front) ≡ fitting (content t ++ piece)
+  front_fits piece front n room is =
+      let all : 80 ≡ length (content t) + (80 - t.len) = omega (arith, held, t.within) in
+      let long : t.len + n ≡ t.len + length front = rw is (omega (arith, length-take n piece)) in
+      take-put_mid t.len _ t.bytes front (t.len + n) long (omega (arith, t.room, t.within))
+      ∙ ap (λ l. content t ++ l) (is ∙ ap (λ k. take k piece) room ∙ take_min (80 - t.len) piece)
+      ∙ sym (ap (λ k. take k (content t ++ piece)) all ∙ take-append-add (content t) piece (80 - t.len))

@@ -24,6 +24,7 @@ impl Text {
         &self.bytes[..self.len]
     }
 
+    #[tactic(auto, using(crate::proofs::Fitting::one_fits, crate::proofs::Fitting::none_fits))]
     pub fn push(&mut self, byte: u8)
         ensures gains { Gains self.old (byte ∷ []) self.new }
     {
@@ -33,12 +34,13 @@ impl Text {
         }
     }
 
+    #[tactic(auto, using(crate::proofs::Fitting::front_fits))]
     pub fn push_str(&mut self, piece: &str)
         ensures gains { Gains self.old piece.now self.new }
     {
-        for byte in piece.bytes() {
-            self.push(byte);
-        }
+        let fits = (CAPACITY - self.len).min(piece.len());
+        self.bytes[self.len..self.len + fits].copy_from_slice(&piece.as_bytes()[..fits]);
+        self.len += fits;
     }
 
     // The number's decimal digits, with no leading zero, and a minus before a number below zero.
