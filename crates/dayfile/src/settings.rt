@@ -1,5 +1,5 @@
 // What a file's first record says of its board.
-ghost use Rattle.std.specs.Prelude.{◌≡◌, Ok, Some};
+ghost use Rattle.std.specs.Prelude.{◌≡◌, ◌≤◌, length, Ok, Some};
 ghost use Rattle.dayfile.specs.Format.{refuse_if, outside, memory_kind, job_kind};
 ghost use Rattle.dayfile.specs.Words.{memory_word, job_word};
 ghost use Rattle.dayfile.specs.declared.fault.FileRefusal.TheVariants.{UnknownKind};
@@ -30,14 +30,24 @@ impl TryFrom<u8> for MemoryKind {
     }
 }
 
+impl MemoryKind {
+    // The word that it is printed by, for what neither fails nor allocates.
+    pub fn word(self) -> &'static str
+        ensures word { result.now ≡ memory_word self }
+        ensures short { length (memory_word self) ≤ 6 }
+    {
+        match self {
+            MemoryKind::Direct => "direct",
+            MemoryKind::Queued => "queued",
+        }
+    }
+}
+
 impl fmt::Display for MemoryKind {
     ghost output = { λ kind. Some (memory_word kind) };
 
     fn fmt<W: fmt::Write>(&self, f: &mut fmt::Formatter<W>) -> fmt::Result {
-        f.write_str(match self {
-            MemoryKind::Direct => "direct",
-            MemoryKind::Queued => "queued",
-        })
+        f.write_str(self.word())
     }
 }
 
@@ -61,14 +71,24 @@ impl TryFrom<u8> for JobKind {
     }
 }
 
+impl JobKind {
+    // The word that it is printed by, as a memory's kind.
+    pub fn word(self) -> &'static str
+        ensures word { result.now ≡ job_word self }
+        ensures short { length (job_word self) ≤ 6 }
+    {
+        match self {
+            JobKind::Cards => "cards",
+            JobKind::Labels => "labels",
+        }
+    }
+}
+
 impl fmt::Display for JobKind {
     ghost output = { λ kind. Some (job_word kind) };
 
     fn fmt<W: fmt::Write>(&self, f: &mut fmt::Formatter<W>) -> fmt::Result {
-        f.write_str(match self {
-            JobKind::Cards => "cards",
-            JobKind::Labels => "labels",
-        })
+        f.write_str(self.word())
     }
 }
 

@@ -20,7 +20,15 @@ tally (HelperStep helper) n = record n { helper_step = n.helper_step + 1 }
 tally (Finish helper outcome) n = record n { finish = n.finish + 1 }
 tally Land n = record n { land = n.land + 1 }
 
--- as `3 calls: push 1, pop 1, retire 0, owner step 1, helper step 0, finish 0, land 0`
+-- as `3 calls: push 1, pop 1, retire 0`
+abbrev pub closing_front : Counts → List ℕ
+closing_front n =
+    decimal (total_of n) ++ (codes " calls: push " ++ (decimal n.push ++ (codes ", pop " ++ (decimal n.pop ++ (codes ", retire " ++ decimal n.retire)))))
+
+-- as `, owner step 1, helper step 0, finish 0, land 0`
+abbrev pub closing_back : Counts → List ℕ
+closing_back n =
+    codes ", owner step " ++ (decimal n.owner_step ++ (codes ", helper step " ++ (decimal n.helper_step ++ (codes ", finish " ++ (decimal n.finish ++ (codes ", land " ++ decimal n.land))))))
+
 abbrev pub closing : Counts → List ℕ
-closing n =
-    decimal (total_of n) ++ (codes " calls: push " ++ (decimal n.push ++ (codes ", pop " ++ (decimal n.pop ++ (codes ", retire " ++ (decimal n.retire ++ (codes ", owner step " ++ (decimal n.owner_step ++ (codes ", helper step " ++ (decimal n.helper_step ++ (codes ", finish " ++ (decimal n.finish ++ (codes ", land " ++ decimal n.land)))))))))))))
+closing n = closing_front n ++ closing_back n

@@ -1,9 +1,8 @@
 // How many calls of each kind a listing has so far.
-ghost use Rattle.std.specs.Prelude.{◌≡◌, ◌<◌, Some};
-ghost use Rattle.listing.specs.Counts.{total_of, tally, closing};
+ghost use Rattle.std.specs.Prelude.{◌≡◌, ◌<◌};
+ghost use Rattle.listing.specs.Counts.{total_of, tally};
 
 use calls::Call;
-use std::fmt;
 
 #[derive(Clone, Copy, Default)]
 pub(crate) struct Counts {
@@ -43,24 +42,5 @@ impl Counts {
             Call::Finish { .. } => self.finish += 1,
             Call::Land => self.land += 1,
         }
-    }
-}
-
-// The closing line of a listing.
-impl fmt::Display for Counts {
-    ghost output = { λ counts. Some (closing counts) };
-
-    fn fmt<W: fmt::Write>(&self, f: &mut fmt::Formatter<W>) -> fmt::Result {
-        let total = self.total();
-        write!(
-            f,
-            "{total} calls: push {}, pop {}, retire {}",
-            self.push, self.pop, self.retire
-        )?;
-        write!(
-            f,
-            ", owner step {}, helper step {}, finish {}, land {}",
-            self.owner_step, self.helper_step, self.finish, self.land
-        )
     }
 }

@@ -1,6 +1,6 @@
-use Rattle.std.proofs.Common.{◌≤◌, length, decimal, ap, arith, length-append}
+use Rattle.std.proofs.Common.{◌≤◌, length, arith, length-append}
 use Rattle.dayfile.specs.Faults.{refusal_line}
-use Rattle.text.proofs.Fitting.{same_piece, then, whole}
+use Rattle.text.proofs.Fitting.{then, whole}
 use Rattle.dayfile.proofs.fault.FileFault.text.Goals as goal
 
 pub returns : goal.returns
