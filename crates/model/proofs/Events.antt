@@ -9,7 +9,7 @@ use Rattle.model.specs.Plain.{Plain, Deed, pushes, pops, retires, takes, finishe
 use Rattle.model.specs.declared.owner.Phase.{Phase}
 use Rattle.model.specs.declared.owner.Phase.TheVariants.{Idle, Opening, Sharing, Shrinking, Closing, Retiring}
 use Rattle.model.specs.declared.reply.Answer.{Answer}
-use Rattle.model.specs.declared.reply.Answer.TheVariants.{Pushed, Work, Retired, Taken, Refused}
+use Rattle.model.specs.declared.reply.Answer.TheVariants.{Going, Pushed, Work, Stolen, Retired, Taken, AllGone, NoShare, Changed, Finished, Refused}
 
 -- how far the owner's operation has come: none, begun but in no order yet, or placed with this answer
 pub data Stage (J O : Type 0) : Type 0 where
@@ -57,9 +57,17 @@ module _ {J O : Type 0} where
   StepAllowed a (barred r) st st' ev = (st' ≡ st) × (ev ≡ nothing)
 
   abbrev pub AttemptAllowed : ℕ → Answer J O → Event J O → Type 0
+  AttemptAllowed helper Going ev = ev ≡ nothing
+  AttemptAllowed helper Pushed ev = ⊥
+  AttemptAllowed helper (Work job) ev = ⊥
+  AttemptAllowed helper Stolen ev = ⊥
+  AttemptAllowed helper (Retired outcome) ev = ⊥
   AttemptAllowed helper (Taken job) ev = ev ≡ places (takes helper) (Taken job)
+  AttemptAllowed helper AllGone ev = ev ≡ nothing
+  AttemptAllowed helper NoShare ev = ev ≡ nothing
+  AttemptAllowed helper Changed ev = ev ≡ nothing
+  AttemptAllowed helper Finished ev = ⊥
   AttemptAllowed helper (Refused r) ev = Barred (takes helper) (Refused r) (is_operation r) ev
-  AttemptAllowed helper a ev = ev ≡ nothing
 
   abbrev pub FinishAllowed : ℕ → O → Answer J O → Progress → Event J O → Type 0
   FinishAllowed helper outcome a going ev = ⊥

@@ -13,7 +13,7 @@ use Rattle.model.specs.Orders.{Progress, going, ended, barred, progress, is_oper
 use Rattle.model.specs.Plain.{Plain, Deed, pushes, pops, retires, takes, finishes, new_plain, does}
 use Rattle.model.specs.declared.reply.Answer.{Answer}
 use Rattle.model.specs.declared.reply.Refusal.{Refusal}
-use Rattle.model.specs.declared.reply.Answer.TheVariants.{Pushed, Work, Retired, Taken, Refused}
+use Rattle.model.specs.declared.reply.Answer.TheVariants.{Pushed, Work, Stolen, Retired, Taken, Finished, Refused}
 
 module _ {J O : Type 0} where
   -- the order has no operation of this till with this first call
@@ -467,6 +467,11 @@ module _ {J O : Type 0} (size : ℕ) (h : List (Entry J O)) (st : Stage J O) (b 
           stage
           (allowed ∙ ap (λ (y : Answer J O). cond (is_operation r) (places (takes k) y) nothing) (sym is))
           happens
+      attempt_kept Pushed is allowed = absurd allowed
+      attempt_kept (Work job) is allowed = absurd allowed
+      attempt_kept Stolen is allowed = absurd allowed
+      attempt_kept (Retired outcome) is allowed = absurd allowed
+      attempt_kept Finished is allowed = absurd allowed
       attempt_kept x is allowed = unchanged st' b' attempt_same_owner attempts_go (attempt_ending x is) stage (rw allowed at happens)
 
     finish_kept : (k : ℕ) (outcome : O) → e.call ≡ Finish k outcome → st' ≡ st → (p : Progress) → progress a ≡ p → FinishAllowed k outcome a p ev → Then
