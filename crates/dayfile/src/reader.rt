@@ -168,14 +168,14 @@ fn call_of<J: Job>(tag: Tag, value: &[u8]) -> Result<Call<J, J::Outcome>, FileRe
 {
     match (tag, value) {
         (Tag::Board, _) => Err(FileRefusal::OutOfOrder),
-        (Tag::Push, job) if job.len() == J::JOB_BYTES => Ok(Call::Push {
+        (Tag::Push, job) if job.len() == J::width() => Ok(Call::Push {
             job: J::decode(job)?,
         }),
         (Tag::Pop, []) => Ok(Call::Pop),
         (Tag::Retire, []) => Ok(Call::Retire),
         (Tag::OwnerStep, []) => Ok(Call::OwnerStep),
         (Tag::HelperStep, [helper]) => Ok(Call::HelperStep { helper: *helper }),
-        (Tag::Finish, [helper, outcome @ ..]) if outcome.len() == J::OUTCOME_BYTES => Ok(
+        (Tag::Finish, [helper, outcome @ ..]) if outcome.len() == J::outcome_width() => Ok(
             Call::Finish {
                 helper: *helper,
                 outcome: J::decode_outcome(outcome)?,
