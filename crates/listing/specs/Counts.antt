@@ -30,5 +30,6 @@ abbrev pub closing_back : Counts → List ℕ
 closing_back n =
     codes ", owner step " ++ (decimal n.owner_step ++ (codes ", helper step " ++ (decimal n.helper_step ++ (codes ", finish " ++ (decimal n.finish ++ (codes ", land " ++ decimal n.land))))))
 
+-- the closing line, `3 calls: push 1, pop 1, retire 0, owner step 1, helper step 0, finish 0, land 0`
 abbrev pub closing : Counts → List ℕ
 closing n = closing_front n ++ closing_back n
